@@ -1,7 +1,7 @@
 -- The instruction that a text stands for.
-use Rattle.std.proofs.Common.{◌≡◌, ℕ, ℤ, pos, Bool, true, false, ◌&&◌, ◌||◌, not, nat_le, nat_lt, nat_eq, List, [], ◌∷◌, ◌++◌, Option, Some, None, refl, sym}
+use Rattle.std.proofs.Common.{◌≡◌, ℕ, ℤ, pos, Bool, true, false, ◌&&◌, not, nat_lt, nat_eq, List, [], ◌∷◌, ◌++◌, Option, Some, None, refl, sym}
 use Rattle.std.proofs.Common.{ap, subst, ◌∙◌, append_assoc}
-use Rattle.std.specs.Prelude.{codes, filter, map, All}
+use Rattle.std.specs.Prelude.{codes, cond, filter, map, All}
 use Rattle.std.specs.List.{list_all}
 use Rattle.std.proofs.lemmas.Bool.{and_parts}
 use Rattle.std.proofs.lemmas.List.Elements.{All-head, All-tail}
@@ -23,63 +23,17 @@ use Rattle.rv64_instr.specs.declared.symbol.Half.TheVariants.{Upper, Lower}
 use Rattle.rv64_instr.specs.Instruction.{Instruction}
 use Rattle.rv64_instr.specs.Arithmetic.{load_width, store_width}
 use Rattle.rv64_instr.specs.Form.{has_form, fits_registers, fits_immediate, fits_upper, fits_branch, fits_load, fits_store, fits_copy, fits_jump, fits_call}
-use Rattle.rv64_instr.specs.Form.{is_within, has_12_bits, is_immediate, is_addi, moves_slot, is_implicit, is_argument}
+use Rattle.rv64_instr.specs.Form.{has_register_callee, is_within, has_12_bits, is_immediate, is_addi, moves_slot, is_implicit, is_argument}
 use Rattle.rv64_instr.specs.Form.{is_result, is_call_register, is_held_tail_use, is_held_tail_register, fits_held_call, fits_tail, fits_held_tail}
 use Rattle.rv64_instr.proofs.Tails.{gone_calls, held_gone_calls, held_tail_uses}
 use Rattle.rv64_instr.specs.Mnemonic.{mnemonic_of}
-use Rattle.rv64_instr.proofs.Names.{mnemonic_of-injective}
-use Rattle.mir_printer.specs.Spelling.{instruction_text, is_definition, register_text, uses_text}
+use Rattle.mir_printer.specs.Spelling.{definitions_text, instruction_text, is_definition, register_text, uses_text, as_callee, held_uses}
 use Rattle.mir_printer.specs.Printable.{IsNumber, HasNumbers, IsPrintableInstruction, as_slot}
-use Rattle.mir_printer.proofs.Cuts.{front_one, Stops, run_one}
-use Rattle.mir_printer.proofs.Operands.{register_one, AllUses, IsTail, uses_one}
+use Rattle.mir_printer.proofs.Cuts.{front_one, Stops}
+use Rattle.mir_printer.proofs.Opcodes.{is_letter, opcode_one}
+use Rattle.mir_printer.proofs.Operands.{register_one, IsUse, AllUses, IsTail, uses_one}
 use Rattle.mir_printer.proofs.Stack.{Each, IsNoSlot, OneKind, no_slots, no_objects, IsTold, operands_one, implicit_plain, argument_plain, result_plain}
 use Rattle.mir_printer.proofs.Stack.{no_slots_of, no_objects_of, tail_plain}
-
--- ---- opcodes
-
-abbrev is_letter : ℕ → Bool
-is_letter b = (nat_le 65 b && nat_le b 90) || (nat_le 97 b && nat_le b 122)
-
-abbrev begins_flag : List ℕ → Bool
-begins_flag [] = false
-begins_flag (b ∷ bs) = nat_eq 110 b
-
--- an opcode is one word, or the flag `noreturn` and one word
-data Shape (op : Op) : Type 0 where
-  word : list_all is_letter (mnemonic_of op) ≡ true → ((r : List ℕ) → begins_flag (mnemonic_of op ++ r) ≡ false) → Shape op
-  flagged : (name : List ℕ) → mnemonic_of op ≡ codes "noreturn " ++ name → list_all is_letter name ≡ true → Shape op
-
-shape : (op : Op) → Shape op
-shape (Registers Add) = word refl (λ r. refl)
-shape (Immediate Addi) = word refl (λ r. refl)
-shape (Branch Beq) = word refl (λ r. refl)
-shape (Load Lb) = word refl (λ r. refl)
-shape (Store Sb) = word refl (λ r. refl)
-shape NoReturnCall = flagged (codes "PseudoCALL") refl refl
-shape NoReturnCallIndirect = flagged (codes "PseudoCALLIndirect") refl refl
-shape op = word refl (λ r. refl)
-
-flag_apart : (a b : Op) (name r s : List ℕ) → mnemonic_of a ≡ codes "noreturn " ++ name → ((t : List ℕ) → begins_flag (mnemonic_of b ++ t) ≡ false) →
-    mnemonic_of a ++ r ≡ mnemonic_of b ++ s → ⊥
-flag_apart a b name r s is plain e =
-    let both : true ≡ false = ap begins_flag (ap (λ (t : List ℕ). t ++ r) (sym is) ∙ e) ∙ plain s in
-    cc
-
-shapes_one : (a b : Op) (r s : List ℕ) → Shape a → Shape b → Stops is_letter r → Stops is_letter s → mnemonic_of a ++ r ≡ mnemonic_of b ++ s →
-    (mnemonic_of a ≡ mnemonic_of b) × (r ≡ s)
-shapes_one a b r s (word letters plain) (word others bare) stop stops e = run_one is_letter (mnemonic_of a) (mnemonic_of b) r s letters others stop stops e
-shapes_one a b r s (flagged m is letters) (flagged n are others) stop stops e =
-    let tails : m ++ r ≡ n ++ s =
-    front_one (codes "noreturn ") (m ++ r) (n ++ s) (ap (λ (t : List ℕ). t ++ r) (sym is) ∙ (e ∙ ap (λ (t : List ℕ). t ++ s) are)) in
-    let found = run_one is_letter m n r s letters others stop stops tails in
-    (is ∙ (ap (λ (name : List ℕ). codes "noreturn " ++ name) found.0 ∙ sym are), found.1)
-shapes_one a b r s (flagged m is letters) (word others bare) stop stops e = absurd (flag_apart a b m r s is bare e)
-shapes_one a b r s (word letters plain) (flagged n are others) stop stops e = absurd (flag_apart b a n s r are plain (sym e))
-
-opcode_one : (a b : Op) (r s : List ℕ) → Stops is_letter r → Stops is_letter s → mnemonic_of a ++ r ≡ mnemonic_of b ++ s → (a ≡ b) × (r ≡ s)
-opcode_one a b r s stop stops e =
-    let found = shapes_one a b r s (shape a) (shape b) stop stops e in
-    (mnemonic_of-injective a b found.0, found.1)
 
 -- ---- the form: a definition at most at the front, and slots alone or objects alone
 
@@ -306,10 +260,84 @@ all_uses : (os : List Operand) → NoDefinitions os → filter (λ o. not (is_de
 all_uses [] none = refl
 all_uses (o ∷ os) none = rw (none.0) (ap (λ (us : List Operand). o ∷ us) (all_uses os none.1))
 
+-- ---- the callee of a call by a register, which prints as a register that is read
+
+abbrev BeginsImplicit : List Operand → Type 0
+BeginsImplicit (ImplicitUse r ∷ rest) = Unit {0}
+BeginsImplicit _ = ⊥
+
+-- operands of such a call begin with an implicit use
+abbrev IsBegun : (held : Bool) → List Operand → Type 0
+IsBegun true os = BeginsImplicit os
+IsBegun false os = Unit {0}
+
+held_begins : (os : List Operand) → fits_held_call os ≡ true → BeginsImplicit os
+held_begins (ImplicitUse r ∷ Mask ∷ rest) e = tt
+held_begins os e = absurd cc
+
+tail_begins : (os : List Operand) → fits_held_tail os ≡ true → BeginsImplicit os
+tail_begins (ImplicitUse r ∷ rest) e = tt
+tail_begins os e = absurd cc
+
+begun : (op : Op) (os : List Operand) → has_form op os ≡ true → IsBegun (has_register_callee op) os
+begun PseudoCallIndirect os e = held_begins os e
+begun PseudoTailIndirect os e = tail_begins os e
+begun NoReturnCallIndirect os e = held_begins os (held_gone_calls os e)
+begun op os e = tt
+
+uses_begun : (held : Bool) (target : Option ℕ) (uses : List Operand) → IsBegun held (with_target target uses) → IsBegun held uses
+uses_begun true None uses h = h
+uses_begun true (Some rd) uses h = absurd h
+uses_begun false target uses h = tt
+
+abbrev callee_first : List Operand → List Operand
+callee_first [] = []
+callee_first (o ∷ os) = as_callee o ∷ os
+
+-- operands other than definitions, as they print
+abbrev shown : (held : Bool) → List Operand → List Operand
+shown held uses = cond held (callee_first uses) uses
+
+uses_shown : (held : Bool) (target : Option ℕ) (uses : List Operand) → NoDefinitions uses → IsBegun held (with_target target uses) →
+    cond held (held_uses (with_target target uses)) (filter (λ o. not (is_definition o)) (with_target target uses)) ≡ shown held uses
+uses_shown true None [] none h = absurd h
+uses_shown true None (o ∷ os) none h = ap (λ (us : List Operand). as_callee o ∷ us) (all_uses os none.1)
+uses_shown true (Some rd) uses none h = absurd h
+uses_shown false None uses none h = all_uses uses none
+uses_shown false (Some rd) uses none h = all_uses uses none
+
+callee_use : (o : Operand) → IsUse o → IsUse (as_callee o)
+callee_use (ImplicitUse r) is = (refl, is.1)
+callee_use o is = is
+
+shown_all : (held : Bool) (us : List Operand) → AllUses us → AllUses (shown held us)
+shown_all true [] all = tt
+shown_all true (o ∷ os) all = (callee_use o all.0, all.1)
+shown_all false us all = all
+
+same_uses : (held : Bool) (us vs : List Operand) → IsBegun held us → IsBegun held vs → map as_slot (shown held us) ≡ map as_slot (shown held vs) →
+    map as_slot us ≡ map as_slot vs
+same_uses true (ImplicitUse m ∷ us) (ImplicitUse n ∷ vs) h k e =
+    let first : m ≡ n = cc in
+    let rest : map as_slot us ≡ map as_slot vs = cc in
+    cc
+same_uses true (ImplicitUse m ∷ us) vs h k e = absurd k
+same_uses true us vs h k e = absurd h
+same_uses false us vs h k e = e
+
+regrouped : (a b c d e : List ℕ) → (((a ++ b) ++ c) ++ d) ++ e ≡ a ++ (b ++ (c ++ (d ++ e)))
+regrouped a b c d e = simp append_assoc
+
 text_before : (target : Option ℕ) (op : Op) (uses : List Operand) (tail : List ℕ) → NoDefinitions uses →
-    instruction_text (record { op = op; operands = with_target target uses }) ++ tail ≡ before target op uses tail
-text_before None op uses tail none = rw (no_definitions uses none, all_uses uses none) (simp append_assoc)
-text_before (Some rd) op uses tail none = rw (no_definitions uses none, all_uses uses none) (simp append_assoc)
+    IsBegun (has_register_callee op) (with_target target uses) →
+    instruction_text (record { op = op; operands = with_target target uses }) ++ tail ≡ before target op (shown (has_register_callee op) uses) tail
+text_before None op uses tail none h =
+    (λ i. ((definitions_text (no_definitions uses none i) ++ mnemonic_of op) ++ uses_text (uses_shown (has_register_callee op) None uses none h i)) ++ tail)
+    ∙ append_assoc (mnemonic_of op) (uses_text (shown (has_register_callee op) uses)) tail
+text_before (Some rd) op uses tail none h =
+    (λ i. ((definitions_text (Def rd ∷ no_definitions uses none i) ++ mnemonic_of op)
+    ++ uses_text (uses_shown (has_register_callee op) (Some rd) uses none h i)) ++ tail)
+    ∙ regrouped (register_text rd) (codes " = ") (mnemonic_of op) (uses_text (shown (has_register_callee op) uses)) tail
 
 -- ---- one instruction
 
@@ -403,16 +431,24 @@ instruction_one objects i j r s is others end ends e =
     let q = parts_of j.op j.operands others.form in
     let all : All HasNumbers (with_target p.target p.uses) = subst (All HasNumbers) p.parts is.numbers in
     let more : All HasNumbers (with_target q.target q.uses) = subst (All HasNumbers) q.parts others.numbers in
-    let left : instruction_text i ++ r ≡ before p.target i.op p.uses r =
-    ap (λ (os : List Operand). instruction_text (record { op = i.op; operands = os }) ++ r) p.parts ∙ text_before p.target i.op p.uses r p.none in
-    let right : instruction_text j ++ s ≡ before q.target j.op q.uses s =
-    ap (λ (os : List Operand). instruction_text (record { op = j.op; operands = os }) ++ s) q.parts ∙ text_before q.target j.op q.uses s q.none in
-    let found = before_one p.target q.target i.op j.op p.uses q.uses r s (target_of p.target p.uses all) (target_of q.target q.uses more)
-    (uses_of p.uses p.none (numbers_of p.target p.uses all))
-    (uses_of q.uses q.none (numbers_of q.target q.uses more)) end.tail ends.tail end.letter ends.letter (sym left ∙ (e ∙ right)) in
+    let a = has_register_callee i.op in
+    let b = has_register_callee j.op in
+    let h : IsBegun a (with_target p.target p.uses) = subst (IsBegun a) p.parts (begun i.op i.operands is.form) in
+    let k : IsBegun b (with_target q.target q.uses) = subst (IsBegun b) q.parts (begun j.op j.operands others.form) in
+    let left : instruction_text i ++ r ≡ before p.target i.op (shown a p.uses) r =
+    ap (λ (os : List Operand). instruction_text (record { op = i.op; operands = os }) ++ r) p.parts ∙ text_before p.target i.op p.uses r p.none h in
+    let right : instruction_text j ++ s ≡ before q.target j.op (shown b q.uses) s =
+    ap (λ (os : List Operand). instruction_text (record { op = j.op; operands = os }) ++ s) q.parts ∙ text_before q.target j.op q.uses s q.none k in
+    let found = before_one p.target q.target i.op j.op (shown a p.uses) (shown b q.uses) r s (target_of p.target p.uses all)
+    (target_of q.target q.uses more) (shown_all a p.uses (uses_of p.uses p.none (numbers_of p.target p.uses all)))
+    (shown_all b q.uses (uses_of q.uses q.none (numbers_of q.target q.uses more))) end.tail ends.tail end.letter ends.letter (sym left ∙ (e ∙ right)) in
+    let same : map as_slot p.uses ≡ map as_slot q.uses =
+    same_uses a p.uses q.uses (uses_begun a p.target p.uses h)
+    (subst (λ (op : Op). IsBegun (has_register_callee op) q.uses) (sym found.1) (uses_begun b q.target q.uses k))
+    (found.2 ∙ ap (λ (op : Op). map as_slot (shown (has_register_callee op) q.uses)) (sym found.1)) in
     let slots : map as_slot i.operands ≡ map as_slot j.operands =
     ap (map as_slot) p.parts ∙ (slots_of p.target p.uses ∙ (ap (λ (t : Option ℕ). with_target t (map as_slot p.uses)) found.0 ∙
-    (ap (λ (us : List Operand). with_target q.target us) found.2 ∙ (sym (slots_of q.target q.uses) ∙ sym (ap (map as_slot) q.parts))))) in
+    (ap (λ (us : List Operand). with_target q.target us) same ∙ (sym (slots_of q.target q.uses) ∙ sym (ap (map as_slot) q.parts))))) in
     (same_instruction objects i j is others p.kind q.kind found.1 slots, found.3)
 
 -- an instruction doesn't begin with a `D`
@@ -439,7 +475,9 @@ before_begins (Some rd) op uses tail = register_begins (nat_lt rd 32) rd (codes 
 pub instruction_begins : (objects : ℕ → Bool) (i : Instruction) (r s : List ℕ) → IsPrintableInstruction objects i → instruction_text i ++ r ≡ 68 ∷ s → ⊥
 instruction_begins objects i r s is e =
     let p = parts_of i.op i.operands is.form in
-    let text : instruction_text i ++ r ≡ before p.target i.op p.uses r =
-    ap (λ (os : List Operand). instruction_text (record { op = i.op; operands = os }) ++ r) p.parts ∙ text_before p.target i.op p.uses r p.none in
-    let both : false ≡ true = sym (before_begins p.target i.op p.uses r) ∙ (ap begins_with_d (sym text) ∙ ap begins_with_d e) in
+    let a = has_register_callee i.op in
+    let text : instruction_text i ++ r ≡ before p.target i.op (shown a p.uses) r =
+    ap (λ (os : List Operand). instruction_text (record { op = i.op; operands = os }) ++ r) p.parts
+    ∙ text_before p.target i.op p.uses r p.none (subst (IsBegun a) p.parts (begun i.op i.operands is.form)) in
+    let both : false ≡ true = sym (before_begins p.target i.op (shown a p.uses) r) ∙ (ap begins_with_d (sym text) ∙ ap begins_with_d e) in
     cc

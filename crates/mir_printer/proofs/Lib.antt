@@ -3,6 +3,7 @@ pub mod ListedLemmas
 pub mod Cuts
 pub mod Addends
 pub mod Symbols
+pub mod Opcodes
 pub mod Operands
 pub mod Stack
 pub mod Instructions

@@ -1,10 +1,12 @@
 -- One more text in a list with commas between them.
-use Rattle.std.proofs.Common.{◌≡◌, ℕ, ◌+◌, ◌<◌, List, [], ◌∷◌, ◌++◌, refl, ◌∙◌, ap, append_assoc, length, take, get_or}
+use Rattle.std.proofs.Common.{◌≡◌, ℕ, ◌+◌, ◌-◌, ◌<◌, ◌≤◌, List, [], ◌∷◌, ◌++◌, refl, sym, ◌∙◌, ap, append_assoc, length, take, drop, get_or}
+use Rattle.std.proofs.Common.{arith}
+use Rattle.std.proofs.Math.Seq.{take-length}
 use Rattle.std.specs.Prelude.{Bool, true, false, codes, cond, map, filter}
-use Rattle.std.proofs.lemmas.List.{append-nil, map-append}
+use Rattle.std.proofs.lemmas.List.{append-nil, map-append, drop_more, length-drop}
 use Rattle.std.proofs.lemmas.List.Elements.{filter_more}
 use Rattle.rv64_instr.specs.declared.operand.Operand.{Operand}
-use Rattle.mir_printer.specs.Spelling.{comma_separated, definitions_text, operand_text, uses_text}
+use Rattle.mir_printer.specs.Spelling.{comma_separated, definitions_text, held_uses, operand_text, uses_text}
 use Rattle.mir_printer.specs.steps.Listed.{listed_text, selects, selected_texts, has_any}
 
 -- what stands before the next text
@@ -65,3 +67,21 @@ definitions_text-none (o ∷ os) none = cc
 pub uses_text-listed : (operands : List Operand) → uses_text operands ≡ listed_text (codes " ") (map operand_text operands)
 uses_text-listed [] = refl
 uses_text-listed (o ∷ os) = refl
+
+-- ---- a call by a register
+
+-- a list, by the first of its elements and the others
+pub first_and_rest : {X : Type 0} (xs : List X) (x : X) → 1 ≤ length xs → x ≡ get_or xs 0 x → x ∷ take (length xs - 1) (drop 1 xs) ≡ xs
+first_and_rest {X} xs x some is =
+    ap (λ (n : ℕ). x ∷ take n (drop 1 xs)) (sym (length-drop 1 xs)) ∙ ap (λ (t : List X). x ∷ t) (take-length (drop 1 xs))
+    ∙ ap (λ (y : X). y ∷ drop 1 xs) is ∙ sym (drop_more xs 0 x (omega (arith, some)))
+
+pub held_uses-none : (old : List ℕ) (os : List Operand) → length os < 1 → old ≡ old ++ uses_text (held_uses os)
+held_uses-none old [] less = sym (append-nil old)
+held_uses-none old (o ∷ os) less = absurd (omega (arith, less))
+
+pub uses_text-first : (o : Operand) (os : List Operand) →
+    uses_text (o ∷ os) ≡ codes " " ++ (operand_text o ++ listed_text (codes ", ") (map operand_text os))
+uses_text-first o [] = ap (λ (t : List ℕ). codes " " ++ t) (sym (append-nil (operand_text o)))
+uses_text-first o (p ∷ os) =
+    ap (λ (t : List ℕ). codes " " ++ t) (append_assoc (operand_text o) (codes ", ") (comma_separated (map operand_text (p ∷ os))))

@@ -4,6 +4,7 @@ use Rattle.std.specs.Prelude.{[], ◌∷◌, ◌++◌, Option, Some}
 use Rattle.std.specs.Prelude.{None, codes, filter, map}
 use Rattle.std.specs.List.{flat_map, list_all}
 use Rattle.std.specs.Fmt.{decimal, signed_decimal}
+use Rattle.rv64_instr.specs.declared.op.Op.{Op}
 use Rattle.rv64_instr.specs.declared.operand.Operand.{Operand}
 use Rattle.rv64_instr.specs.declared.operand.Operand.TheVariants.{Def, Use, ImplicitDef, ImplicitUse, Imm, Slot as SlotOperand, Object, Part, Block, Symbol}
 use Rattle.rv64_instr.specs.declared.operand.Operand.TheVariants.{Outgoing}
@@ -15,6 +16,7 @@ use Rattle.rv64_instr.specs.declared.symbol.Half.{Half}
 use Rattle.rv64_instr.specs.declared.symbol.Half.TheVariants.{Upper, Lower}
 use Rattle.rv64_instr.specs.declared.place.Place.{Place}
 use Rattle.rv64_instr.specs.declared.place.Place.TheVariants.{Register, Slot, Const}
+use Rattle.rv64_instr.specs.Form.{has_register_callee}
 use Rattle.rv64_instr.specs.Instruction.{Instruction}
 use Rattle.rv64_instr.specs.Mnemonic.{mnemonic_of}
 use Rattle.mir_func.specs.declared.location.Loc.{Loc}
@@ -121,9 +123,31 @@ abbrev pub uses_text : List Operand → List ℕ
 uses_text [] = []
 uses_text (o ∷ os) = codes " " ++ comma_separated (map operand_text (o ∷ os))
 
+-- the register of an implicit use
+abbrev pub implicit_register : Operand → Option ℕ
+implicit_register (ImplicitUse r) = Some r
+implicit_register _ = None
+
+abbrev pub callee_by : Option ℕ → Operand → Operand
+callee_by None o = o
+callee_by (Some r) o = Use r
+
+-- an operand as the callee of a call by a register: its register prints as one that is read
+abbrev pub as_callee : Operand → Operand
+as_callee o = callee_by (implicit_register o) o
+
+-- the operands behind the opcode of a call by a register, of which the first is the callee
+abbrev pub held_uses : List Operand → List Operand
+held_uses [] = []
+held_uses (o ∷ os) = as_callee o ∷ filter (λ u. not (is_definition u)) os
+
+-- the operands behind an opcode
+abbrev pub uses_behind : Op → List Operand → List Operand
+uses_behind op os = cond (has_register_callee op) (held_uses os) (filter (λ u. not (is_definition u)) os)
+
 -- an instruction: the registers that it sets and ` = `, its mnemonic, and its other operands
 abbrev pub instruction_text : Instruction → List ℕ
-instruction_text i = definitions_text (filter is_definition i.operands) ++ mnemonic_of i.op ++ uses_text (filter (λ o. not (is_definition o)) i.operands)
+instruction_text i = definitions_text (filter is_definition i.operands) ++ mnemonic_of i.op ++ uses_text (uses_behind i.op i.operands)
 
 -- the attribute `debug-instr-number K`, if an instruction has a number
 abbrev pub number_text : Option ℕ → List ℕ

@@ -9,7 +9,7 @@ use crate::text::{Text, push_str};
 use std::alloc::AllocError;
 
 /// Appends a symbol: `@` and its name, in double quotes if it needs them.
-pub(crate) fn push_symbol(text: &mut Text, name: &[u8]) -> Result<(), AllocError>
+pub fn push_symbol(text: &mut Text, name: &[u8]) -> Result<(), AllocError>
     ensures ok { OnOk result (text.new ≡ text.old ++ symbol_text name.now) }
     ensures err { OnErr result (GrownFrom text.old text.new) }
 {

@@ -45,7 +45,19 @@ object_named (Phi p number) = None
 
 -- the body before the first line
 abbrev pub nothing_read : Body
-nothing_read = record { before = []; last = None; entries = []; items = 0; ids = []; codes = []; numbers = []; constants = []; objects = []; variables = [] }
+nothing_read = record {
+  before = [];
+  last = None;
+  closed = [];
+  entries = [];
+  items = 0;
+  ids = [];
+  codes = [];
+  numbers = [];
+  constants = [];
+  objects = [];
+  variables = [];
+}
 
 -- the blocks, with one more if there is one
 abbrev pub and_last : List Block → Option Block → List Block
@@ -65,6 +77,13 @@ label_cause body n = if is_met n body.ids then Some DuplicateBlock else (if nat_
 -- the body with a new last block
 abbrev pub with_label : Body → ℕ → Body
 with_label body n = record body { before = blocks_of body; last = Some (record { id = n; items = []; source_end = 0 }); ids = met n body.ids }
+
+-- ---- the ends of blocks
+
+-- the body after a line that says that control doesn't leave the last block, if there is one
+abbrev pub with_closed : Body → Option Block → Body
+with_closed body None = body
+with_closed body (Some b) = record body { closed = met b.id body.closed }
 
 -- ---- items
 

@@ -8,6 +8,7 @@ ghost use Rattle.read_body.specs.Body.{
   nothing_read,
   label_cause,
   with_label,
+  with_closed,
   repeats,
   with_facts,
   with_item,
@@ -50,6 +51,8 @@ pub struct Body {
     pub before: Blocks,
     /// The last block, to which the next item is appended.
     pub last: Option<Block>,
+    /// The numbers of the blocks that control doesn't leave, as a line says.
+    pub closed: FirstUseOrder,
     /// The stack entries that its items name.
     pub entries: StackIds,
     /// How many items it has.
@@ -112,6 +115,7 @@ impl Body {
         Body {
             before: List::new(alloc),
             last: None,
+            closed: FirstUseOrder::new(alloc),
             entries: List::new(alloc),
             items: 0,
             ids: FirstUseOrder::new(alloc),
@@ -152,8 +156,23 @@ impl Body {
         Ok(())
     }
 
+    /// Records that control doesn't leave the last block, if there is one.
+    pub fn close_last(&mut self) -> Result<(), AllocError>
+        ensures closed { OnOk result (self.new ≡ with_closed self.old self.old.last) }
+        ensures last { OnOk result (self.new.last ≡ self.old.last) }
+        ensures items { OnOk result (self.new.items ≡ self.old.items) }
+    {
+        match &self.last {
+            Some(block) => {
+                let id = block.id;
+                self.closed.meet(u64::from(id.number()))
+            }
+            None => Ok(()),
+        }
+    }
+
     /// Whether the debug instruction number of an item is a duplicate.
-    fn repeats(&self, kind: &ItemKind) -> bool
+    pub fn repeats(&self, kind: &ItemKind) -> bool
         ensures { result ≡ repeats self.now kind.now }
     {
         match kind {

@@ -2,3 +2,6 @@ pub mod Streams
 pub mod Walks
 pub mod Ids
 pub mod Keys
+pub mod Runs
+pub mod PoolEntries
+pub mod Once

@@ -1,4 +1,4 @@
--- The declarations of a function's document: its name, its stack entries and its debug value substitutions.
+-- The declarations of a function's document: its name, its stack entries, its debug value substitutions and its constants.
 use Rattle.std.specs.Prelude.{◌≡◌, List, [], ◌∷◌, Option, Some, None, Result, Ok, Err}
 use Rattle.read_documents.specs.declared.parts.FunctionDocument.{FunctionDocument}
 use Rattle.read_lexer.specs.declared.line.Line.{Line}
@@ -13,6 +13,7 @@ use Rattle.read_declarations.specs.List.{list_of}
 use Rattle.read_declarations.specs.Name.{name_of}
 use Rattle.read_declarations.specs.Stack.{stack_of}
 use Rattle.read_declarations.specs.Substitutions.{substitutions_of}
+use Rattle.read_declarations.specs.Constants.{pool_of}
 
 -- No entry of `fixedStack` is supported: the first one is refused as a stack object. The result is the earlier of that and `refused`.
 abbrev pub fixed_entries : Option Refusal → List MappingEntry → Option Refusal
@@ -26,8 +27,8 @@ fixed_refusal lines = fixed_entries (list_of lines).refused (list_of lines).entr
 -- the first refusal among the lines that declare something
 abbrev pub refusal_of : FunctionDocument → Option Refusal
 refusal_of doc =
-    earlier (earlier (name_of doc.name).refused (stack_of doc.stack).refused)
-    (earlier (fixed_refusal doc.fixed) (substitutions_of doc.substitutions).refused)
+    earlier (earlier (earlier (name_of doc.name).refused (stack_of doc.stack).refused)
+    (earlier (fixed_refusal doc.fixed) (substitutions_of doc.substitutions).refused)) (pool_of doc.linked doc.constants).refused
 
 -- the declarations, which count only if nothing is refused
 abbrev pub declared_of : FunctionDocument → Declarations
@@ -35,6 +36,7 @@ declared_of doc = record {
   name = (name_of doc.name).name;
   stack = (stack_of doc.stack).entries;
   substitutions = (substitutions_of doc.substitutions).entries;
+  pool = (pool_of doc.linked doc.constants).ids;
 }
 
 -- declarations, unless there is a refusal

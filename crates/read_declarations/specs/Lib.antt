@@ -4,5 +4,6 @@ pub mod List
 pub mod Field
 pub mod Stack
 pub mod Substitutions
+pub mod Constants
 pub mod Name
 pub mod Declarations

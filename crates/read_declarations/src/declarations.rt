@@ -4,6 +4,7 @@ ghost use Rattle.std.specs.Prelude.{◌≡◌, IfOk};
 ghost use Rattle.read_declarations.specs.Declarations.{Gives, fixed_refusal, checked, declarations_of};
 ghost use Rattle.read_declarations.specs.declared.declarations.DeclarationError.TheVariants.{Memory};
 
+use crate::constants::{ConstantIds, pool};
 use crate::list::list;
 use crate::name::name;
 use crate::stack::{StackEntries, stack};
@@ -26,6 +27,8 @@ pub struct Declarations {
     pub stack: StackEntries,
     /// The substitutions of its debug instruction numbers, in order.
     pub substitutions: Substitutions,
+    /// The numbers of the constants in its pool (LLVM: `MachineConstantPool`).
+    pub pool: ConstantIds,
 }
 
 /// Why declarations couldn't be read.
@@ -89,9 +92,13 @@ pub fn read_declarations(
     let stack = stack(alloc, document.stack.as_slice())?;
     let fixed = fixed_refusal(alloc, document.fixed.as_slice())?;
     let substitutions = substitutions(alloc, document.substitutions.as_slice())?;
+    let pool = pool(alloc, document.linked, document.constants.as_slice())?;
     let refused = earlier(
-        earlier(name.refused, stack.refused),
-        earlier(fixed, substitutions.refused),
+        earlier(
+            earlier(name.refused, stack.refused),
+            earlier(fixed, substitutions.refused),
+        ),
+        pool.refused,
     );
     checked(
         refused,
@@ -99,6 +106,7 @@ pub fn read_declarations(
             name: name.name,
             stack: stack.entries,
             substitutions: substitutions.entries,
+            pool: pool.ids,
         },
     )
 }

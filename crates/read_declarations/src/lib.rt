@@ -1,4 +1,5 @@
-//! The declarations in a machine function's MIR document: its name, stack entries and debug value substitutions.
+//! The declarations in a machine function's MIR document: its name, stack entries, debug value substitutions and
+//! constants.
 //!
 //! Each has its own key in the document, beside `body`. The name is one line. Each list is a stream of tokens over
 //! the lines of its key, `- { id: 0, size: 8 }` and so on; it is parsed up to the first token that can't come next,
@@ -6,6 +7,9 @@
 //! of all.
 #![tactic(auto)]
 
+mod constant_line;
+mod constant_value;
+pub mod constants;
 pub mod declarations;
 mod entry;
 mod field;

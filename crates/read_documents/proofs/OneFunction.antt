@@ -9,10 +9,10 @@ use Rattle.std.proofs.lemmas.List.Folds.{list_any-append}
 use Rattle.std.proofs.lemmas.List.Elements.{filter-append}
 use Rattle.read_lexer.specs.declared.line.Line.{Line}
 use Rattle.read_documents.specs.declared.key.Key.{Key}
-use Rattle.read_documents.specs.declared.key.Key.TheVariants.{Name, Stack, FixedStack, DebugValueSubstitutions, Body, Other}
+use Rattle.read_documents.specs.declared.key.Key.TheVariants.{Name, Stack, FixedStack, DebugValueSubstitutions, Constants, ReturnsTwice, Body, Other}
 use Rattle.read_documents.specs.declared.open_function.OpenFunction.{OpenFunction}
 use Rattle.read_documents.specs.Key.{heading, is_plain, opens_block, opens_function}
-use Rattle.read_documents.specs.Documents.{same_key, begins, has_key, key_behind, lines_under, function_document, is_fault, is_complete}
+use Rattle.read_documents.specs.Documents.{same_key, begins, has_key, key_behind, lines_under, function_document, comes_once, is_fault, is_complete}
 use Rattle.read_documents.specs.steps.Scan.{has, can_not_take, taken_under, taken, can_close, closed_at}
 
 -- the key of the last of some lines, where `before` is that of the line before them
@@ -24,15 +24,18 @@ abbrev body_lines : List Line → List Line
 body_lines lines = filter (λ line. is_none (heading line.text)) lines
 
 -- an open function whose lines so far are these
-abbrev pub opened_with : ℕ → List Line → OpenFunction
-opened_with opened lines = record {
+abbrev pub opened_with : (linked : Bool) → ℕ → List Line → OpenFunction
+opened_with linked opened lines = record {
   opened = opened;
+  linked = linked;
   key = last_key Other lines;
   has_body = has_key Body lines;
   name = lines_under Name Other lines;
   stack = lines_under Stack Other lines;
   fixed = lines_under FixedStack Other lines;
   substitutions = lines_under DebugValueSubstitutions Other lines;
+  constants = lines_under Constants Other lines;
+  twice = lines_under ReturnsTwice Other lines;
   body = body_lines (lines_under Body Other lines);
 }
 
@@ -66,23 +69,35 @@ lines_under-push key before (first ∷ lines) line = lines_under-front key befor
 
 -- ---- a line is taken
 
+-- the lines of an open function under each key
+record Parts : Type 0 where
+  name : List Line
+  stack : List Line
+  fixed : List Line
+  substitutions : List Line
+  constants : List Line
+  twice : List Line
+  body : List Line
+
 -- an open function from its parts
-abbrev made : ℕ → Key → Bool → List Line → List Line → List Line → List Line → List Line → OpenFunction
-made opened key has_body name stack fixed substitutions body = record {
+abbrev made : (linked : Bool) → ℕ → Key → Bool → Parts → OpenFunction
+made linked opened key has_body p = record {
   opened = opened;
+  linked = linked;
   key = key;
   has_body = has_body;
-  name = name;
-  stack = stack;
-  fixed =
-      fixed;
-  substitutions = substitutions;
-  body = body;
+  name = p.name;
+  stack = p.stack;
+  fixed = p.fixed;
+  substitutions = p.substitutions;
+  constants = p.constants;
+  twice = p.twice;
+  body = p.body;
 }
 
-made-same : (opened : ℕ) (key : Key) {h h' : Bool} {n n' s s' f f' u u' b b' : List Line} → h ≡ h' → n ≡ n' → s ≡ s' → f ≡ f' → u ≡ u' → b ≡ b' →
-    made opened key h n s f u b ≡ made opened key h' n' s' f' u' b'
-made-same opened key eh en es ef eu eb = λ i. made opened key (eh i) (en i) (es i) (ef i) (eu i) (eb i)
+made-same : (linked : Bool) (opened : ℕ) (key : Key) {h h' : Bool} {p p' : Parts} → h ≡ h' → p ≡ p' →
+    made linked opened key h p ≡ made linked opened key h' p'
+made-same linked opened key eh ep = λ i. made linked opened key (eh i) (ep i)
 
 or_false : (b : Bool) → b ≡ (b || false)
 or_false true = refl
@@ -100,29 +115,70 @@ as_was lines = sym (append-nil lines)
 abbrev body_alone : Option Key → Key → Line → List Line
 body_alone here under line = cond (same_key Body under) (cond (is_none here) (line ∷ []) []) []
 
-abbrev grown : ℕ → Option Key → Key → Bool → List Line → List Line → List Line → List Line → List Line → Line → OpenFunction
-grown opened here key h n s f u b line =
-    made opened (unwrap_or here key) (h || (option_map_or (same_key Body) here false || false)) (n ++ alone Name (unwrap_or here key) line) (s ++
-    alone Stack (unwrap_or here key) line)
-    (f ++ alone FixedStack (unwrap_or here key) line) (u ++ alone DebugValueSubstitutions (unwrap_or here key) line) (b ++
-    body_alone here (unwrap_or here key) line)
+-- each part with what it gets of a line under a key
+abbrev grown_parts : Option Key → Key → Parts → Line → Parts
+grown_parts here under p line = record {
+  name = p.name ++ alone Name under line;
+  stack = p.stack ++ alone Stack under line;
+  fixed = p.fixed ++ alone FixedStack under line;
+  substitutions = p.substitutions ++ alone DebugValueSubstitutions under line;
+  constants = p.constants ++ alone Constants under line;
+  twice = p.twice ++ alone ReturnsTwice under line;
+  body = p.body ++ body_alone here under line;
+}
 
-taken_under-is : (opened : ℕ) (here : Option Key) (key : Key) (h : Bool) (n s f u b : List Line) (line : Line) →
-    taken_under (made opened key h n s f u b) here line ≡ grown opened here key h n s f u b line
-taken_under-is opened (Some Name) key h n s f u b line = made-same opened Name (or_false h) refl (as_was s) (as_was f) (as_was u) (as_was b)
-taken_under-is opened (Some Stack) key h n s f u b line = made-same opened Stack (or_false h) (as_was n) refl (as_was f) (as_was u) (as_was b)
-taken_under-is opened (Some FixedStack) key h n s f u b line = made-same opened FixedStack (or_false h) (as_was n) (as_was s) refl (as_was u) (as_was b)
-taken_under-is opened (Some DebugValueSubstitutions) key h n s f u b line = made-same opened DebugValueSubstitutions (or_false h) (as_was n) (as_was s) (as_was
-    f) refl (as_was b)
-taken_under-is opened (Some Body) key h n s f u b line = made-same opened Body (or_true h) (as_was n) (as_was s) (as_was f) (as_was u) (as_was b)
-taken_under-is opened (Some Other) key h n s f u b line = made-same opened Other (or_false h) (as_was n) (as_was s) (as_was f) (as_was u) (as_was b)
-taken_under-is opened None Name h n s f u b line = made-same opened Name (or_false h) refl (as_was s) (as_was f) (as_was u) (as_was b)
-taken_under-is opened None Stack h n s f u b line = made-same opened Stack (or_false h) (as_was n) refl (as_was f) (as_was u) (as_was b)
-taken_under-is opened None FixedStack h n s f u b line = made-same opened FixedStack (or_false h) (as_was n) (as_was s) refl (as_was u) (as_was b)
-taken_under-is opened None DebugValueSubstitutions h n s f u b line = made-same opened DebugValueSubstitutions (or_false h) (as_was n) (as_was s) (as_was f)
-    refl (as_was b)
-taken_under-is opened None Body h n s f u b line = made-same opened Body (or_false h) (as_was n) (as_was s) (as_was f) (as_was u) refl
-taken_under-is opened None Other h n s f u b line = made-same opened Other (or_false h) (as_was n) (as_was s) (as_was f) (as_was u) (as_was b)
+abbrev grown : (linked : Bool) → ℕ → Option Key → Key → Bool → Parts → Line → OpenFunction
+grown linked opened here key h p line =
+    made linked opened (unwrap_or here key) (h || (option_map_or (same_key Body) here false || false)) (grown_parts here (unwrap_or here key) p line)
+
+-- the parts where each but one is as it was
+parts_same : {n s f u c t b n' s' f' u' c' t' b' : List Line} → n ≡ n' → s ≡ s' → f ≡ f' → u ≡ u' → c ≡ c' → t ≡ t' → b ≡ b' →
+    ◌≡◌ {A = Parts} (record { name = n; stack = s; fixed = f; substitutions = u; constants = c; twice = t; body = b })
+    (record { name = n'; stack = s'; fixed = f'; substitutions = u'; constants = c'; twice = t'; body = b' })
+parts_same en es ef eu ec et eb = λ i. record {
+  name = en i;
+  stack = es i;
+  fixed = ef i;
+  substitutions = eu i;
+  constants = ec i;
+  twice = et i;
+  body = eb i;
+}
+
+taken_under-is : (linked : Bool) (opened : ℕ) (here : Option Key) (key : Key) (h : Bool) (p : Parts) (line : Line) →
+    taken_under (made linked opened key h p) here line ≡ grown linked opened here key h p line
+taken_under-is linked opened (Some Name) key h p line = made-same linked opened Name (or_false h) (parts_same refl (as_was p.stack) (as_was p.fixed) (as_was
+    p.substitutions) (as_was p.constants) (as_was p.twice) (as_was p.body))
+taken_under-is linked opened (Some Stack) key h p line = made-same linked opened Stack (or_false h) (parts_same (as_was p.name) refl (as_was p.fixed) (as_was
+    p.substitutions) (as_was p.constants) (as_was p.twice) (as_was p.body))
+taken_under-is linked opened (Some FixedStack) key h p line = made-same linked opened FixedStack (or_false h) (parts_same (as_was p.name) (as_was p.stack)
+    refl (as_was p.substitutions) (as_was p.constants) (as_was p.twice) (as_was p.body))
+taken_under-is linked opened (Some DebugValueSubstitutions) key h p line = made-same linked opened DebugValueSubstitutions (or_false h) (parts_same (as_was
+    p.name) (as_was p.stack) (as_was p.fixed) refl (as_was p.constants) (as_was p.twice) (as_was p.body))
+taken_under-is linked opened (Some Constants) key h p line = made-same linked opened Constants (or_false h) (parts_same (as_was p.name) (as_was p.stack)
+    (as_was p.fixed) (as_was p.substitutions) refl (as_was p.twice) (as_was p.body))
+taken_under-is linked opened (Some ReturnsTwice) key h p line = made-same linked opened ReturnsTwice (or_false h) (parts_same (as_was p.name) (as_was p.stack)
+    (as_was p.fixed) (as_was p.substitutions) (as_was p.constants) refl (as_was p.body))
+taken_under-is linked opened (Some Body) key h p line = made-same linked opened Body (or_true h) (parts_same (as_was p.name) (as_was p.stack) (as_was p.fixed)
+    (as_was p.substitutions) (as_was p.constants) (as_was p.twice) (as_was p.body))
+taken_under-is linked opened (Some Other) key h p line = made-same linked opened Other (or_false h) (parts_same (as_was p.name) (as_was p.stack) (as_was
+    p.fixed) (as_was p.substitutions) (as_was p.constants) (as_was p.twice) (as_was p.body))
+taken_under-is linked opened None Name h p line = made-same linked opened Name (or_false h) (parts_same refl (as_was p.stack) (as_was p.fixed) (as_was
+    p.substitutions) (as_was p.constants) (as_was p.twice) (as_was p.body))
+taken_under-is linked opened None Stack h p line = made-same linked opened Stack (or_false h) (parts_same (as_was p.name) refl (as_was p.fixed) (as_was
+    p.substitutions) (as_was p.constants) (as_was p.twice) (as_was p.body))
+taken_under-is linked opened None FixedStack h p line = made-same linked opened FixedStack (or_false h) (parts_same (as_was p.name) (as_was p.stack) refl
+    (as_was p.substitutions) (as_was p.constants) (as_was p.twice) (as_was p.body))
+taken_under-is linked opened None DebugValueSubstitutions h p line = made-same linked opened DebugValueSubstitutions (or_false h) (parts_same (as_was p.name)
+    (as_was p.stack) (as_was p.fixed) refl (as_was p.constants) (as_was p.twice) (as_was p.body))
+taken_under-is linked opened None Constants h p line = made-same linked opened Constants (or_false h) (parts_same (as_was p.name) (as_was p.stack) (as_was
+    p.fixed) (as_was p.substitutions) refl (as_was p.twice) (as_was p.body))
+taken_under-is linked opened None ReturnsTwice h p line = made-same linked opened ReturnsTwice (or_false h) (parts_same (as_was p.name) (as_was p.stack)
+    (as_was p.fixed) (as_was p.substitutions) (as_was p.constants) refl (as_was p.body))
+taken_under-is linked opened None Body h p line = made-same linked opened Body (or_false h) (parts_same (as_was p.name) (as_was p.stack) (as_was p.fixed)
+    (as_was p.substitutions) (as_was p.constants) (as_was p.twice) refl)
+taken_under-is linked opened None Other h p line = made-same linked opened Other (or_false h) (parts_same (as_was p.name) (as_was p.stack) (as_was p.fixed)
+    (as_was p.substitutions) (as_was p.constants) (as_was p.twice) (as_was p.body))
 
 body_lines-alone : (under : Key) (line : Line) (here : Bool) → same_key Body under ≡ here →
     body_lines (cond here (line ∷ []) []) ≡ cond here (cond (is_none (heading line.text)) (line ∷ []) []) []
@@ -136,19 +192,29 @@ body_lines-push lines line =
     lines) (alone Body (key_behind (last_key Other lines) line) line)
     ∙ ap (λ (more : List Line). body_lines (lines_under Body Other lines) ++ more) (body_lines-alone (key_behind (last_key Other lines) line) line _ refl)
 
+-- the parts of the lines of a function
+abbrev parts_of : List Line → Parts
+parts_of lines = record {
+  name = lines_under Name Other lines;
+  stack = lines_under Stack Other lines;
+  fixed = lines_under FixedStack Other lines;
+  substitutions = lines_under DebugValueSubstitutions Other lines;
+  constants = lines_under Constants Other lines;
+  twice = lines_under ReturnsTwice Other lines;
+  body = body_lines (lines_under Body Other lines);
+}
+
 -- a line of a function is one more of its lines
-pub taken-is : (opened : ℕ) (lines : List Line) (line : Line) → taken (opened_with opened lines) line ≡ opened_with opened (lines ++ line ∷ [])
-taken-is opened lines line =
+pub taken-is : (linked : Bool) (opened : ℕ) (lines : List Line) (line : Line) →
+    taken (opened_with linked opened lines) line ≡ opened_with linked opened (lines ++ line ∷ [])
+taken-is linked opened lines line =
     let key = last_key-push Other lines line in
     let body = list_any-append (begins Body) lines (line ∷ []) in
-    let n = lines_under-push Name Other lines line in
-    let s = lines_under-push Stack Other lines line in
-    let f = lines_under-push FixedStack Other lines line in
-    let u = lines_under-push DebugValueSubstitutions Other lines line in
-    let b = body_lines-push lines line in
-    taken_under-is opened (heading line.text) (last_key Other lines) (has_key Body lines) (lines_under Name Other lines) (lines_under Stack Other lines)
-    (lines_under FixedStack Other lines) (lines_under DebugValueSubstitutions Other lines) (body_lines (lines_under Body Other lines)) line
-    ∙ sym (λ i. made opened (key i) (body i) (n i) (s i) (f i) (u i) (b i))
+    let under = λ (k : Key). lines_under-push k Other lines line in
+    let parts = parts_same (under Name) (under Stack) (under FixedStack) (under DebugValueSubstitutions) (under Constants) (under ReturnsTwice)
+    (body_lines-push lines line) in
+    taken_under-is linked opened (heading line.text) (last_key Other lines) (has_key Body lines) (parts_of lines) line
+    ∙ sym (λ i. made linked opened (key i) (body i) (parts i))
 
 -- ---- which keys were met
 
@@ -177,32 +243,36 @@ not_not false = refl
 has-one : (key : Key) (lines : List Line) → same_key key Other ≡ false → not (length (lines_under key Other lines) == 0) ≡ has_key key lines
 has-one key lines other = ap not (length-lines_under key Other lines other) ∙ not_not (has_key key lines)
 
--- a key that is kept was met where one of the lines begins with it
-has-is : (opened : ℕ) (lines : List Line) (key : Key) → has (opened_with opened lines) key ≡ (not (same_key key Other) && has_key key lines)
-has-is opened lines Name = has-one Name lines refl
-has-is opened lines Stack = has-one Stack lines refl
-has-is opened lines FixedStack = has-one FixedStack lines refl
-has-is opened lines DebugValueSubstitutions = has-one DebugValueSubstitutions lines refl
-has-is opened lines Body = refl
-has-is opened lines Other = refl
+-- a key that may come once was met where one of the lines begins with it
+has-is : (linked : Bool) (opened : ℕ) (lines : List Line) (key : Key) → has (opened_with linked opened lines) key ≡ (comes_once linked key && has_key key lines)
+has-is linked opened lines Name = has-one Name lines refl
+has-is linked opened lines Stack = has-one Stack lines refl
+has-is linked opened lines FixedStack = has-one FixedStack lines refl
+has-is linked opened lines DebugValueSubstitutions = has-one DebugValueSubstitutions lines refl
+has-is linked opened lines Constants = ap (λ (b : Bool). linked && b) (has-one Constants lines refl)
+has-is linked opened lines ReturnsTwice = ap (λ (b : Bool). linked && b) (has-one ReturnsTwice lines refl)
+has-is linked opened lines Body = refl
+has-is linked opened lines Other = refl
 
-repeated-is : (opened : ℕ) (lines : List Line) (here : Option Key) → option_map_or (λ key. has (opened_with opened lines) key) here false ≡ option_map_or (λ
-    key. not (same_key key Other) && has_key key lines) here false
-repeated-is opened lines (Some key) = has-is opened lines key
-repeated-is opened lines None = refl
+repeated-is : (linked : Bool) (opened : ℕ) (lines : List Line) (here : Option Key) →
+    option_map_or (λ key. has (opened_with linked opened lines) key) here false ≡ option_map_or (λ key. comes_once linked key && has_key key lines) here false
+repeated-is linked opened lines (Some key) = has-is linked opened lines key
+repeated-is linked opened lines None = refl
 
 -- a line can't be taken where it is a fault
-pub can_not_take-is : (opened : ℕ) (lines : List Line) (line : Line) → can_not_take (opened_with opened lines) line.text ≡ is_fault lines line
+pub can_not_take-is : (linked : Bool) (opened : ℕ) (lines : List Line) (line : Line) →
+    can_not_take (opened_with linked opened lines) line.text ≡ is_fault linked lines line
 unfolding is_fault
-can_not_take-is opened lines line =
+can_not_take-is linked opened lines line =
     ap (λ (b : Bool). (opens_block line.text || opens_function line.text) || (b || (is_none (heading line.text) && (not (is_plain line.text) && not (has_key
-    Body lines))))) (repeated-is opened lines (heading line.text))
+    Body lines))))) (repeated-is linked opened lines (heading line.text))
 
 -- a function can be closed where its lines are complete
-pub can_close-is : (opened : ℕ) (lines : List Line) → can_close (opened_with opened lines) ≡ is_complete lines
-can_close-is opened lines = ap (λ (b : Bool). b && has_key Body lines) (has-one Name lines refl)
+pub can_close-is : (linked : Bool) (opened : ℕ) (lines : List Line) → can_close (opened_with linked opened lines) ≡ is_complete lines
+can_close-is linked opened lines = ap (λ (b : Bool). b && has_key Body lines) (has-one Name lines refl)
 
 -- a function that is closed is its document
-pub closed_at-is : (opened : ℕ) (lines : List Line) (closed : ℕ) → closed_at (opened_with opened lines) closed ≡ function_document opened lines closed
+pub closed_at-is : (linked : Bool) (opened : ℕ) (lines : List Line) (closed : ℕ) →
+    closed_at (opened_with linked opened lines) closed ≡ function_document linked opened lines closed
 unfolding function_document
-closed_at-is opened lines closed = refl
+closed_at-is linked opened lines closed = refl

@@ -4,7 +4,7 @@ use Rattle.std.specs.List.{prefix_len}
 use Rattle.std.specs.Char.{is_ascii_alphanumeric}
 use Rattle.std.specs.Str.{bytes_eq}
 use Rattle.read_documents.specs.declared.key.Key.{Key}
-use Rattle.read_documents.specs.declared.key.Key.TheVariants.{Name, Stack, FixedStack, DebugValueSubstitutions, Body, Other}
+use Rattle.read_documents.specs.declared.key.Key.TheVariants.{Name, Stack, FixedStack, DebugValueSubstitutions, Constants, ReturnsTwice, Body, Other}
 
 -- the line `...`, which closes a document
 unfoldable pub is_close : List ℕ → Bool
@@ -32,15 +32,17 @@ is_plain (b ∷ bs) = b == 32 || b == 45 || b == 35
 abbrev pub is_key_byte : ℕ → Bool
 is_key_byte b = is_ascii_alphanumeric b || b == 95
 
--- the key that a name spells; any name but the five that are kept is `Other`
+-- the key that a name spells; any name but the seven that are kept is `Other`
 abbrev pub key_of : List ℕ → Key
 key_of name =
     if bytes_eq name (codes "name") then Name
     else (if bytes_eq name (codes "stack") then Stack
     else (if bytes_eq name (codes "fixedStack") then FixedStack
     else (if bytes_eq name (codes "debugValueSubstitutions") then DebugValueSubstitutions
+    else (if bytes_eq name (codes "constants") then Constants
+    else (if bytes_eq name (codes "exposesReturnsTwice") then ReturnsTwice
     else (if bytes_eq name (codes "body") then Body
-    else Other))))
+    else Other))))))
 
 -- the key at the start of a line: one or more key bytes and then `:`
 unfoldable pub heading : List ℕ → Option Key

@@ -8,12 +8,13 @@ use crate::scan::Scan;
 use crate::text::{first_line, trimmed};
 use std::alloc::{AllocError, Global};
 
-/// The documents of a text, up to the first line where it is no sequence of documents. The error is want of memory.
-pub fn documents(alloc: Global, text: &[u8]) -> Result<Documents, AllocError>
+/// The documents of a text, up to the first line where it is no sequence of documents; `linked` is whether functions
+/// are read in the linked language. The error is want of memory.
+pub fn documents(alloc: Global, linked: bool, text: &[u8]) -> Result<Documents, AllocError>
     requires { length text.now < 2 ^ 31 }
-    ensures { IfOk result (λ documents. documents ≡ documents_of text.now) }
+    ensures { IfOk result (λ documents. documents ≡ documents_of linked text.now) }
 {
-    let mut scan = Scan::new(alloc);
+    let mut scan = Scan::new(alloc, linked);
     let mut last = 0;
     let mut rest = text;
     while !rest.is_empty() {

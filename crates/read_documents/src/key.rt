@@ -17,6 +17,10 @@ pub enum Key {
     FixedStack,
     /// `debugValueSubstitutions`
     DebugValueSubstitutions,
+    /// `constants`
+    Constants,
+    /// `exposesReturnsTwice`
+    ReturnsTwice,
     /// `body`
     Body,
     /// Any other key: its lines are ignored.
@@ -87,6 +91,10 @@ fn key_of(name: &[u8]) -> Key
         Key::FixedStack
     } else if name == b"debugValueSubstitutions".as_slice() {
         Key::DebugValueSubstitutions
+    } else if name == b"constants".as_slice() {
+        Key::Constants
+    } else if name == b"exposesReturnsTwice".as_slice() {
+        Key::ReturnsTwice
     } else if name == b"body".as_slice() {
         Key::Body
     } else {

@@ -15,6 +15,8 @@ use std::alloc::{AllocError, Global};
 pub struct OpenFunction {
     /// The number of the line that opens the function.
     pub opened: u32,
+    /// Whether the function is read in the linked language.
+    pub linked: bool,
     /// The key that the last line belongs to.
     pub key: Key,
     /// Whether the line `body:` came.
@@ -27,6 +29,10 @@ pub struct OpenFunction {
     pub fixed: Lines,
     /// The lines of `debugValueSubstitutions`.
     pub substitutions: Lines,
+    /// The lines of `constants`.
+    pub constants: Lines,
+    /// The lines of `exposesReturnsTwice`.
+    pub twice: Lines,
     /// The lines after `body:`.
     pub body: Lines,
 }
@@ -43,22 +49,25 @@ pub fn line_of(alloc: Global, number: u32, text: &[u8]) -> Result<Line, AllocErr
 
 impl OpenFunction {
     /// A function right after the line that opens it.
-    pub fn new(alloc: Global, opened: u32) -> OpenFunction
-        ensures { result ≡ just_opened opened }
+    pub fn new(alloc: Global, linked: bool, opened: u32) -> OpenFunction
+        ensures { result ≡ just_opened linked opened }
     {
         OpenFunction {
             opened,
+            linked,
             key: Key::Other,
             has_body: false,
             name: List::new(alloc),
             stack: List::new(alloc),
             fixed: List::new(alloc),
             substitutions: List::new(alloc),
+            constants: List::new(alloc),
+            twice: List::new(alloc),
             body: List::new(alloc),
         }
     }
 
-    /// Whether a line with this key came already, for a key that is kept.
+    /// Whether a line with this key came already, for a key that may come once.
     fn has(&self, key: Key) -> bool
         ensures { result ≡ has self.now key }
     {
@@ -67,6 +76,8 @@ impl OpenFunction {
             Key::Stack => !self.stack.is_empty(),
             Key::FixedStack => !self.fixed.is_empty(),
             Key::DebugValueSubstitutions => !self.substitutions.is_empty(),
+            Key::Constants => self.linked && !self.constants.is_empty(),
+            Key::ReturnsTwice => self.linked && !self.twice.is_empty(),
             Key::Body => self.has_body,
             Key::Other => false,
         }
@@ -116,6 +127,8 @@ impl OpenFunction {
             Key::Stack => self.stack.push(line_of(alloc, number, text)?),
             Key::FixedStack => self.fixed.push(line_of(alloc, number, text)?),
             Key::DebugValueSubstitutions => self.substitutions.push(line_of(alloc, number, text)?),
+            Key::Constants => self.constants.push(line_of(alloc, number, text)?),
+            Key::ReturnsTwice => self.twice.push(line_of(alloc, number, text)?),
             Key::Body => self.body.push(line_of(alloc, number, text)?),
             Key::Other => Ok(()),
         }
@@ -135,10 +148,13 @@ impl OpenFunction {
         FunctionDocument {
             opened: self.opened,
             closed,
+            linked: self.linked,
             name: self.name,
             stack: self.stack,
             fixed: self.fixed,
             substitutions: self.substitutions,
+            constants: self.constants,
+            twice: self.twice,
             body: self.body,
         }
     }

@@ -11,6 +11,8 @@ pub struct FunctionDocument {
     pub opened: u32,
     /// The number of the line that closes the function.
     pub closed: u32,
+    /// Whether the function is read in the linked language.
+    pub linked: bool,
     /// The lines of `name`.
     pub name: Lines,
     /// The lines of `stack`.
@@ -19,6 +21,10 @@ pub struct FunctionDocument {
     pub fixed: Lines,
     /// The lines of `debugValueSubstitutions`.
     pub substitutions: Lines,
+    /// The lines of `constants`.
+    pub constants: Lines,
+    /// The lines of `exposesReturnsTwice`.
+    pub twice: Lines,
     /// The lines after `body:`.
     pub body: Lines,
 }

@@ -15,6 +15,8 @@ use std::alloc::{AllocError, Global};
 /// The documents read so far, and which document is open.
 #[derive(Drop)]
 pub struct Scan {
+    /// Whether functions are read in the linked language.
+    pub linked: bool,
     /// Whether an IR block came already.
     pub had_block: bool,
     /// Whether the IR block is open.
@@ -46,10 +48,11 @@ fn function_fault(function: &OpenFunction, number: u32, text: &[u8]) -> Option<u
 
 impl Scan {
     /// The state before the first line.
-    pub fn new(alloc: Global) -> Scan
-        ensures { result ≡ start }
+    pub fn new(alloc: Global, linked: bool) -> Scan
+        ensures { result ≡ start linked }
     {
         Scan {
+            linked,
             had_block: false,
             in_block: false,
             function: None,
@@ -128,7 +131,7 @@ impl Scan {
             self.had_block = true;
             self.in_block = true;
         } else if opens_function(text) {
-            self.function = Some(OpenFunction::new(alloc, number));
+            self.function = Some(OpenFunction::new(alloc, self.linked, number));
         }
     }
 
@@ -149,6 +152,7 @@ impl Scan {
         ensures { result ≡ found self bad }
     {
         let Scan {
+            linked: _,
             had_block: _,
             in_block: _,
             function: _,

@@ -1,7 +1,9 @@
 -- What is read of lines without debug values doesn't depend on the metadata of their text.
-use Rattle.std.proofs.Common.{◌≡◌, ℕ, Bool, true, false, cond, List, [], ◌∷◌, ◌++◌, Option, Some, None, Result, Ok, Err, inl, inr, ◌⊎◌, refl, sym, ap, subst, ◌∙◌}
+use Rattle.std.proofs.Common.{◌≡◌, ℕ, Bool, true, false, cond, List, [], ◌∷◌, ◌++◌, Option, Some, None, Result, Ok, Err, inl, inr, ◌⊎◌, refl, sym, ap, subst}
+use Rattle.std.proofs.Common.{◌∙◌}
 use Rattle.read_refusal.specs.declared.first.Refusal.{Refusal}
 use Rattle.read_refusal.specs.declared.kind.RefusalKind.{RefusalKind}
+use Rattle.read_refusal.specs.declared.kind.RefusalKind.TheVariants as kinds
 use Rattle.mir_func.specs.declared.block.Block.{Block}
 use Rattle.mir_func.specs.declared.item.ItemKind.{ItemKind}
 use Rattle.mir_func.specs.declared.item.ItemKind.TheVariants.{Code, Mark, Phi}
@@ -11,13 +13,14 @@ use Rattle.mir_func.specs.declared.variable.VarId.{VarId}
 use Rattle.read_lexer.specs.declared.line.Line.{Line}
 use Rattle.read_metadata.specs.Maps.{Maps}
 use Rattle.read_line.specs.declared.form.BodyLine.{BodyLine}
-use Rattle.read_line.specs.declared.form.BodyLine.TheVariants.{Passed, Label, Item}
+use Rattle.read_line.specs.declared.form.BodyLine.TheVariants.{Passed, Closed, Label, Item}
 use Rattle.read_line.specs.declared.form.ItemForm.{ItemForm}
 use Rattle.read_line.specs.declared.form.FormError.{FormError}
 use Rattle.read_line.specs.Body.{body_line_of}
 use Rattle.read_item.specs.declared.debug.MarkForm.{MarkForm}
 use Rattle.read_item.specs.declared.judged.Judged.{Judged}
 use Rattle.read_item.specs.declared.judged.Judged.TheVariants as judged_as
+use Rattle.read_item.specs.declared.judged.JudgedItem.{JudgedItem}
 use Rattle.read_item.specs.declared.opcode.DebugOpcode.{DebugOpcode}
 use Rattle.read_item.specs.declared.opcode.DebugOpcode.TheVariants as debug
 use Rattle.read_item.specs.declared.opcode.Opcode.{Opcode}
@@ -31,10 +34,13 @@ use Rattle.read_declarations.specs.Declarations.{declarations_of}
 use Rattle.read_documents.specs.declared.parts.FunctionDocument.{FunctionDocument}
 use Rattle.read_body.specs.declared.body.Body.{Body}
 use Rattle.read_body.specs.FirstUseOrder.{is_known, known}
-use Rattle.read_body.specs.Body.{nothing_read, constant_of, object_named, label_cause, with_label, with_number, with_constant, with_object, with_item, item_cause}
+use Rattle.read_body.specs.Body.{nothing_read, constant_of, object_named, label_cause, with_label, with_number, with_constant, with_object, with_item}
+use Rattle.read_body.specs.Body.{with_closed, item_cause, repeats}
 use Rattle.read_program.specs.declared.closing.Parsed.{Parsed}
 use Rattle.read_program.specs.Closing.{Closes, ParsesParts, Parses}
-use Rattle.read_program.specs.BodyLines.{unless, label_said, judged_said, item_said, line_said, behind_line, and_then, body_behind, body_of}
+use Rattle.read_program.specs.BodyLines.{unless, one_said, second_said, label_said, judged_said, item_said, line_said, behind_line, and_then, body_behind}
+use Rattle.read_program.specs.BodyLines.{lines_of_body, ended, body_of}
+use Rattle.read_program.specs.Ends.{with_ends}
 
 -- ---- one line by itself
 
@@ -47,6 +53,7 @@ IsMarked (Phi p number) = ⊥
 abbrev Marks : Result Judged RefusalKind → Type 0
 Marks (Ok judged_as.Passed) = ⊥
 Marks (Ok (judged_as.Item j)) = IsMarked j.kind
+Marks (Ok (judged_as.Two first second)) = ⊥
 Marks (Err refusal) = ⊥
 
 -- a line is judged the same, or is a debug value
@@ -79,17 +86,18 @@ module _ (line : ItemForm) where
     by_opcode debug.ValueList = by_mark (inlined_at meta line.loc) (inlined_at other line.loc) (list_mark line.operands)
     by_opcode debug.Phi = inl refl
 
-    judged_same_by : (op : Option Opcode) → Same (judged_by op meta line) (judged_by op other line)
-    judged_same_by None = inl refl
-    judged_same_by (Some (opcodes.Code op)) = inl refl
-    judged_same_by (Some (opcodes.Debug op)) = by_opcode op
-    judged_same_by (Some opcodes.Label) = inl refl
-    judged_same_by (Some opcodes.Pseudo) = inl refl
-    judged_same_by (Some opcodes.CallFrame) = inl refl
+    judged_same_by : (linked : Bool) (op : Option Opcode) → Same (judged_by linked op meta line) (judged_by linked op other line)
+    judged_same_by linked None = inl refl
+    judged_same_by linked (Some (opcodes.Code op)) = inl refl
+    judged_same_by linked (Some opcodes.Address) = inl refl
+    judged_same_by linked (Some (opcodes.Debug op)) = by_opcode op
+    judged_same_by linked (Some opcodes.Label) = inl refl
+    judged_same_by linked (Some opcodes.Pseudo) = inl refl
+    judged_same_by linked (Some opcodes.CallFrame) = inl refl
 
-    judged_same : Same (judged meta line) (judged other line)
+    judged_same : (linked : Bool) → Same (judged linked meta line) (judged linked other line)
     unfolding judged
-    judged_same = judged_same_by (opcode_of line.opcode)
+    judged_same linked = judged_same_by linked (opcode_of linked line.opcode)
 
 -- ---- the variables of a body
 
@@ -147,9 +155,23 @@ keeps_unless : (before body : Body) → (body.variables ≡ [] → before.variab
 keeps_unless before body keeps None = keeps
 keeps_unless before body keeps (Some cause) = tt
 
+keeps_one : (body : Body) (j : JudgedItem) → Keeps body (one_said body j)
+keeps_one body j = keeps_unless body (with_item body j.kind j.loc j.entries) (item_keeps body j.kind j.loc j.entries) (item_cause body j.kind j.loc j.entries)
+
+keeps_second : (before : Body) (first : Result Body RefusalKind) (j : JudgedItem) → Keeps before first → Keeps before (second_said first j)
+keeps_second before (Ok body) j keeps = by (one_said body j) (keeps_one body j) where
+  by : (said : Result Body RefusalKind) → Keeps body said → Keeps before said
+  by (Ok behind) back = λ none. keeps (back none)
+  by (Err refusal) back = tt
+keeps_second before (Err refusal) j keeps = tt
+
 leaves_unless : (body : Body) → (body.variables ≡ [] → ⊥) → (cause : Option RefusalKind) → LeavesVariables (unless cause body)
 leaves_unless body some None = some
 leaves_unless body some (Some cause) = tt
+
+keeps_closed : (body : Body) (last : Option Block) → Keeps body (Ok (with_closed body last))
+keeps_closed body None = λ none. none
+keeps_closed body (Some b) = λ none. none
 
 module _ (body : Body) (number : Option ℕ) where
   leaves_mark : (kind : ItemKind) (loc : Loc) (entries : List ℕ) → IsMarked kind →
@@ -164,6 +186,7 @@ module _ (body : Body) (number : Option ℕ) where
   leaves : (one : Result Judged RefusalKind) → Marks one → LeavesVariables (judged_said body number one)
   leaves (Ok judged_as.Passed) marked = absurd marked
   leaves (Ok (judged_as.Item j)) marked = leaves_mark j.kind j.loc j.entries marked
+  leaves (Ok (judged_as.Two first second)) marked = absurd marked
   leaves (Err refusal) marked = absurd marked
 
   said_same : (one other : Result Judged RefusalKind) → Same one other →
@@ -173,18 +196,23 @@ module _ (body : Body) (number : Option ℕ) where
 
   said_keeps : (one : Result Judged RefusalKind) → Keeps body (judged_said body number one)
   said_keeps (Ok judged_as.Passed) = λ none. none
-  said_keeps (Ok (judged_as.Item j)) =
-      keeps_unless body (with_item body j.kind j.loc j.entries) (item_keeps body j.kind j.loc j.entries) (item_cause body j.kind j.loc j.entries)
+  said_keeps (Ok (judged_as.Item j)) = keeps_one body j
+  said_keeps (Ok (judged_as.Two first second)) = by (repeats body second.kind) where
+    by : (twice : Bool) → Keeps body (cond twice (Err kinds.DuplicateNumber) (second_said (one_said body first) second))
+    by true = tt
+    by false = keeps_second body (one_said body first) second (keeps_one body first)
   said_keeps (Err refusal) = tt
 
-module _ (meta other : Maps) (body : Body) where
-  item_same : (last : Option Block) (form : ItemForm) → (item_said other body last form ≡ item_said meta body last form)
-      ⊎ LeavesVariables (item_said meta body last form)
+module _ (linked : Bool) (meta other : Maps) (body : Body) where
+  item_same : (last : Option Block) (form : ItemForm) → (item_said linked other body last form ≡ item_said linked meta body last form)
+      ⊎ LeavesVariables (item_said linked meta body last form)
   item_same None form = inl refl
-  item_same (Some b) form = said_same body form.number (judged meta form) (judged other form) (judged_same form meta other)
+  item_same (Some b) form = said_same body form.number (judged linked meta form) (judged linked other form) (judged_same form meta other linked)
 
-  line_same : (line : Result BodyLine FormError) → (line_said other body line ≡ line_said meta body line) ⊎ LeavesVariables (line_said meta body line)
+  line_same : (line : Result BodyLine FormError) → (line_said linked other body line ≡ line_said linked meta body line) ⊎ LeavesVariables (line_said linked
+      meta body line)
   line_same (Ok Passed) = inl refl
+  line_same (Ok Closed) = inl refl
   line_same (Ok (Label n)) = inl refl
   line_same (Ok (Item form)) = item_same body.last form
   line_same (Err e) = inl refl
@@ -193,12 +221,13 @@ module _ (meta other : Maps) (body : Body) where
   label_keeps None = tt
   label_keeps (Some n) = keeps_unless body (with_label body n) (λ none. none) (label_cause body n)
 
-  item_said_keeps : (last : Option Block) (form : ItemForm) → Keeps body (item_said meta body last form)
+  item_said_keeps : (last : Option Block) (form : ItemForm) → Keeps body (item_said linked meta body last form)
   item_said_keeps None form = tt
-  item_said_keeps (Some b) form = said_keeps body form.number (judged meta form)
+  item_said_keeps (Some b) form = said_keeps body form.number (judged linked meta form)
 
-  line_keeps : (line : Result BodyLine FormError) → Keeps body (line_said meta body line)
+  line_keeps : (line : Result BodyLine FormError) → Keeps body (line_said linked meta body line)
   line_keeps (Ok Passed) = λ none. none
+  line_keeps (Ok Closed) = keeps_closed body body.last
   line_keeps (Ok (Label n)) = label_keeps n
   line_keeps (Ok (Item form)) = item_said_keeps body.last form
   line_keeps (Err e) = tt
@@ -206,43 +235,57 @@ module _ (meta other : Maps) (body : Body) where
 -- ---- all lines
 
 -- the lines were taken in the same way, and there was no variable before them
-abbrev IsSame : (other : Maps) (body : Body) (lines : List Line) (read : Body) → Type 0
-IsSame other body lines read = (body_behind other body lines ≡ Ok read) × (body.variables ≡ [])
+abbrev IsSame : (linked : Bool) (other : Maps) (body : Body) (lines : List Line) (read : Body) → Type 0
+IsSame linked other body lines read = (body_behind linked other body lines ≡ Ok read) × (body.variables ≡ [])
 
-module _ (meta other : Maps) (body : Body) (line : Line) (lines : List Line) (read : Body)
-    (later : (b : Body) → body_behind meta b lines ≡ Ok read → IsSame other b lines read) where
-  taken : (said : Result Body RefusalKind) → behind_line meta body line.text ≡ said →
-      (behind_line other body line.text ≡ said) ⊎ LeavesVariables said → Keeps body said →
-      and_then line.number said (λ b. body_behind meta b lines) ≡ Ok read → IsSame other body (line ∷ lines) read
+module _ (linked : Bool) (meta other : Maps) (body : Body) (line : Line) (lines : List Line) (read : Body)
+    (later : (b : Body) → body_behind linked meta b lines ≡ Ok read → IsSame linked other b lines read) where
+  taken : (said : Result Body RefusalKind) → behind_line linked meta body line.text ≡ said →
+      (behind_line linked other body line.text ≡ said) ⊎ LeavesVariables said → Keeps body said →
+      and_then line.number said (λ b. body_behind linked meta b lines) ≡ Ok read → IsSame linked other body (line ∷ lines) read
   unfolding body_behind
   taken (Ok b) is (inl same) keeps whole =
       let rest = later b whole in (
-        ap (λ (r : Result Body RefusalKind). and_then line.number r (λ c. body_behind other c lines)) same ∙ rest.0,
+        ap (λ (r : Result Body RefusalKind). and_then line.number r (λ c. body_behind linked other c lines)) same ∙ rest.0,
         keeps rest.1,
       )
   taken (Ok b) is (inr some) keeps whole = absurd (some (later b whole).1)
   taken (Err refusal) is same keeps whole = absurd cc
 
-  line_taken : (same : (behind_line other body line.text ≡ behind_line meta body line.text) ⊎ LeavesVariables (behind_line meta body line.text)) →
-      and_then line.number (behind_line meta body line.text) (λ b. body_behind meta b lines) ≡ Ok read → IsSame other body (line ∷ lines) read
-  line_taken same whole = taken (behind_line meta body line.text) refl same (line_keeps meta other body (body_line_of line.text)) whole
+  line_taken : (same : (behind_line linked other body line.text ≡ behind_line linked meta body line.text) ⊎ LeavesVariables (behind_line linked meta body
+      line.text)) →
+      and_then line.number (behind_line linked meta body line.text) (λ b. body_behind linked meta b lines) ≡ Ok read →
+      IsSame linked other body (line ∷ lines) read
+  line_taken same whole = taken (behind_line linked meta body line.text) refl same (line_keeps linked meta other body (body_line_of linked line.text)) whole
 
-body_same : (meta other : Maps) (lines : List Line) (body read : Body) → body_behind meta body lines ≡ Ok read → read.variables ≡ [] →
-    IsSame other body lines read
+body_same : (linked : Bool) (meta other : Maps) (lines : List Line) (body read : Body) → body_behind linked meta body lines ≡ Ok read → read.variables ≡ [] →
+    IsSame linked other body lines read
 unfolding body_behind
-body_same meta other [] body read whole none = let same : read ≡ body = cc in (whole, ap (λ (b : Body). b.variables) (sym same) ∙ none)
-body_same meta other (line ∷ lines) body read whole none =
-    line_taken meta other body line lines read (λ b rest. body_same meta other lines b read rest none) (line_same meta other body (body_line_of
+body_same linked meta other [] body read whole none = let same : read ≡ body = cc in (whole, ap (λ (b : Body). b.variables) (sym same) ∙ none)
+body_same linked meta other (line ∷ lines) body read whole none =
+    line_taken linked meta other body line lines read (λ b rest. body_same linked meta other lines b read rest none) (line_same linked meta other body
+    (body_line_of linked
     line.text)) whole
 
+-- the ends of blocks don't depend on it
+ended_same : (linked : Bool) (one other : Result Body Refusal) (read : Body) → ended linked one ≡ Ok read → read.variables ≡ [] →
+    ((b : Body) → one ≡ Ok b → b.variables ≡ [] → other ≡ Ok b) → ended linked other ≡ Ok read
+ended_same false one other read whole none same = same read whole none
+ended_same true (Ok b) other read whole none same =
+    let is : with_ends b ≡ read = cc in
+    ap (ended true) (same b refl (ap (λ (x : Body). x.variables) is ∙ none)) ∙ ap (λ (x : Body). Ok x) is
+ended_same true (Err refusal) other read whole none same = absurd cc
+
 -- a body without variables is read the same whatever the metadata
-pub body_of-unmarked : (meta other : Maps) (lines : List Line) (read : Body) → body_of meta lines ≡ Ok read → read.variables ≡ [] →
-    body_of other lines ≡ Ok read
-body_of-unmarked meta other lines read whole none = (body_same meta other lines nothing_read read whole none).0
+pub body_of-unmarked : (linked : Bool) (meta other : Maps) (lines : List Line) (read : Body) → body_of linked meta lines ≡ Ok read → read.variables ≡ [] →
+    body_of linked other lines ≡ Ok read
+body_of-unmarked linked meta other lines read whole none =
+    ended_same linked (lines_of_body linked meta lines) (lines_of_body linked other lines) read whole none
+    (λ b is empty. (body_same linked meta other lines nothing_read b is empty).0)
 
 -- the function of a document with these declarations and this body, which close as it
 pub parses_of : (meta : Maps) (doc : FunctionDocument) (declared : Declarations) (body : Body) (p : Parsed) → declarations_of doc ≡ Ok declared →
-    body_of meta doc.body ≡ Ok body → Closes doc.closed declared body (Ok p) → Parses meta doc (Ok p)
+    body_of doc.linked meta doc.body ≡ Ok body → Closes doc.closed declared body (Ok p) → Parses meta doc (Ok p)
 parses_of meta doc declared body p declares reads closes =
-    subst (λ (d : Result Declarations Refusal). ParsesParts doc.closed d (body_of meta doc.body) (Ok p)) (sym declares)
+    subst (λ (d : Result Declarations Refusal). ParsesParts doc.closed d (body_of doc.linked meta doc.body) (Ok p)) (sym declares)
     (subst (λ (b : Result Body Refusal). ParsesParts doc.closed (Ok declared) b (Ok p)) (sym reads) closes)

@@ -1,6 +1,6 @@
 -- What a program that was read in part knows of its documents, from line to line.
-use Rattle.std.proofs.Common.{◌≡◌, ◌==◌, ℕ, ◌+◌, ◌<◌, true, false, List, [], ◌∷◌, ◌++◌, length, Option, Some, None, Result, Ok, Err, All, refl, sym, ap}
-use Rattle.std.proofs.Common.{get_or, subst, ◌∙◌, arith}
+use Rattle.std.proofs.Common.{◌≡◌, ◌==◌, ℕ, ◌+◌, ◌<◌, Bool, true, false, List, [], ◌∷◌, ◌++◌, length, Option, Some, None, Result, Ok, Err, All, refl}
+use Rattle.std.proofs.Common.{sym, ap, get_or, subst, ◌∙◌, arith}
 use Rattle.std.specs.Prelude.{is_some, unwrap_or}
 use Rattle.std.specs.Str.Lines.{lines}
 use Rattle.std.proofs.lemmas.List.{append-nil, nil_from_length}
@@ -298,9 +298,9 @@ unless_memory (Ok program) P said = said
 unless_memory (Err errors.Memory) P said = tt
 unless_memory (Err (errors.Refused r)) P said = said
 
-pub answers-ended : (r : PartialProgram) (text : List ℕ) (answer : Result Program ParseError) → AnswersAs r.functions r.meta r.refused answer →
-    Ends r (documents_of text) → UnlessMemory answer (ReadsText text answer)
-answers-ended r text answer is (other, same, reads) =
+pub answers-ended : (linked : Bool) (r : PartialProgram) (text : List ℕ) (answer : Result Program ParseError) → AnswersAs r.functions r.meta r.refused answer →
+    Ends r (documents_of linked text) → UnlessMemory answer (ReadsText linked text answer)
+answers-ended linked r text answer is (other, same, reads) =
     let one : answer ≡ other = one_answer r.functions r.meta r.refused answer other is same in
-    let said : ReadsText text answer = subst (ReadsDocuments (documents_of text)) (sym one) reads in
-    unless_memory answer (ReadsText text answer) said
+    let said : ReadsText linked text answer = subst (ReadsDocuments (documents_of linked text)) (sym one) reads in
+    unless_memory answer (ReadsText linked text answer) said

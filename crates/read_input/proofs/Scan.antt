@@ -34,7 +34,7 @@ module _ (s : Scan) (line : Line) (had : s.had_block ≡ true) (out : s.in_block
   outside : (passed block function : Bool)
       → cond passed None (cond block (cond s.had_block (Some line.number) None) (cond function None (Some line.number))) ≡ None
       → Stays s (cond passed s (cond block (record s { had_block = true; in_block = true }) (cond function (record s {
-        function = Some (just_opened line.number);
+        function = Some (just_opened s.linked line.number);
       }) s)))
   outside true block function none = same
   outside false true function none =
@@ -49,7 +49,7 @@ module _ (s : Scan) (line : Line) (had : s.had_block ≡ true) (out : s.in_block
       (cond (opens_function line.text) None (Some line.number)))) ≡ None
       → Stays s (cond inside (cond (is_close line.text) (record s { in_block = false }) (record s { meta = s.meta ++ line ∷ [] })) (cond (is_passed
       line.text) s (cond (opens_block line.text) (record s { had_block = true; in_block = true }) (cond (opens_function line.text) (record s {
-        function = Some (just_opened line.number);
+        function = Some (just_opened s.linked line.number);
       }) s))))
   between true is none = absurd cc
   between false is none = outside (is_passed line.text) (opens_block line.text) (opens_function line.text) none
@@ -111,9 +111,9 @@ module _ (s : Scan) (block : List Line) (done : List FunctionDocument) (line : L
 
   opening : (passed opens function : Bool)
       → cond passed (scan_of s block done) (cond opens (record (scan_of s block done) { had_block = true; in_block = true }) (cond function (record (scan_of s
-      block done) { function = Some (just_opened line.number) }) (scan_of s block done)))
+      block done) { function = Some (just_opened s.linked line.number) }) (scan_of s block done)))
       ≡ scan_of (cond passed s (cond opens (record s { had_block = true; in_block = true }) (cond function (record s {
-        function = Some (just_opened line.number);
+        function = Some (just_opened s.linked line.number);
       }) s))) block done
   opening true opens function = refl
   opening false true function = refl
@@ -134,7 +134,8 @@ module _ (s : Scan) (block : List Line) (done : List FunctionDocument) (line : L
 pub step-scan_of : (s : Scan) (block : List Line) (done : List FunctionDocument) (line : Line) → s.in_block ≡ false → Commutes s block done line
 step-scan_of s block done line out = commutes_in s block done line out s.function
 
-fault_in-scan_of : (s : Scan) (block : List Line) (done : List FunctionDocument) (line : Line) (f : Option OpenFunction) → fault_in (scan_of s block done) f line
+fault_in-scan_of : (s : Scan) (block : List Line) (done : List FunctionDocument) (line : Line) (f : Option OpenFunction) →
+    fault_in (scan_of s block done) f line
     ≡ fault_in s f line
 fault_in-scan_of s block done line (Some f) = refl
 fault_in-scan_of s block done line None = refl
@@ -190,9 +191,9 @@ module _ (s : Scan) (done : List FunctionDocument) (line : Line) where
 
   opens_behind : (passed opens function : Bool)
       → cond passed (scan_behind s done) (cond opens (record (scan_behind s done) { had_block = true; in_block = true }) (cond function (record (scan_behind s
-      done) { function = Some (just_opened line.number) }) (scan_behind s done)))
+      done) { function = Some (just_opened s.linked line.number) }) (scan_behind s done)))
       ≡ scan_behind (cond passed s (cond opens (record s { had_block = true; in_block = true }) (cond function (record s {
-        function = Some (just_opened line.number);
+        function = Some (just_opened s.linked line.number);
       }) s))) done
   opens_behind true opens function = refl
   opens_behind false true function = refl

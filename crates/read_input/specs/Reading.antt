@@ -1,5 +1,5 @@
 -- What a reader has read of a text whose front it was given.
-use Rattle.std.specs.Prelude.{◌≡◌, ◌==◌, ℕ, ◌+◌, true, false, ◌||◌, List, [], ◌++◌, Option, None, Some, is_some, Result, Ok, Err, All}
+use Rattle.std.specs.Prelude.{◌≡◌, ◌==◌, ℕ, ◌+◌, Bool, true, false, ◌||◌, List, [], ◌++◌, Option, None, Some, is_some, Result, Ok, Err, All}
 use Rattle.std.specs.Str.Lines.{lines}
 use Rattle.read_refusal.specs.declared.first.Refusal.{Refusal}
 use Rattle.read_lexer.specs.declared.line.Line.{Line}
@@ -36,10 +36,10 @@ pub data Knows (r : PartialProgram) (documents : Documents) (ahead : List (List 
   goes_on : (block : List Line) (done : List FunctionDocument) → r.refused ≡ None → IsReadAs r.scan r.meta r.functions block done →
       documents ≡ scan (scan_of r.scan block done) r.lines (numbered (r.lines + 1) ahead) → Knows r documents ahead
 
--- a reader was given this front of a text, whatever follows
-pub record IsReadingOf (r : ProgramReader) (front : List ℕ) : Type 0 where
+-- a reader was given this front of a text in a language, whatever follows
+pub record IsReadingOf (linked : Bool) (r : ProgramReader) (front : List ℕ) : Type 0 where
   pub one_line : All (λ b. (b == 10) ≡ false) r.line
-  pub knows : (future : List ℕ) → Knows r.program (documents_of (front ++ future)) (lines (r.line ++ future))
+  pub knows : (future : List ℕ) → Knows r.program (documents_of linked (front ++ future)) (lines (r.line ++ future))
 
 -- what reading documents ends in: these functions, or a refusal
 abbrev pub outcome : List Parsed → Option Refusal → Result (List Parsed) ParseError

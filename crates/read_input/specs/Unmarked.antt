@@ -12,7 +12,7 @@ use Rattle.read_program.specs.Closing.{Closes, Parses}
 -- it is what these declarations and this body close as, for each document that has them
 abbrev pub IsReadAnyhow : ℕ → Declarations → Body → Parsed → Type 0
 IsReadAnyhow line declared body p =
-    (meta : Maps) (doc : FunctionDocument) → declarations_of doc ≡ Ok declared → body_of meta doc.body ≡ Ok body → Closes line declared body (Ok p)
+    (meta : Maps) (doc : FunctionDocument) → declarations_of doc ≡ Ok declared → body_of doc.linked meta doc.body ≡ Ok body → Closes line declared body (Ok p)
 
 -- this is the only document, and it is read as this function whatever the metadata is
 abbrev pub IsOnly : List FunctionDocument → Parsed → Type 0

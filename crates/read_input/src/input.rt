@@ -1,6 +1,6 @@
 //! The call that reads a program from an input.
 
-ghost use Rattle.std.specs.Prelude.{◌≡◌, ◌+◌, ◌^◌, ◌<◌, ◌≤◌, ℕ, List, length, take, IfOk, OnOk};
+ghost use Rattle.std.specs.Prelude.{◌≡◌, ◌+◌, ◌^◌, ◌<◌, ◌≤◌, ℕ, Bool, List, length, take, IfOk, OnOk};
 ghost use Rattle.std.specs.Prelude.{OnErr, Ok, All};
 ghost use Rattle.base_io.specs.Faults.{CountRose};
 ghost use Rattle.base_io.specs.Told.{Takes, IsAtEnd};
@@ -21,23 +21,24 @@ const FIRST_CHUNK: usize = 4 * 1024;
 /// How many bytes a piece has at most.
 const CHUNK: usize = 64 * 1024;
 
-/// Reads an input to its end, and gives the program in it. Each iteration takes a byte or ends, and no more than one
-/// byte beyond the limit is read.
+/// Reads an input to its end, and gives the program in it; `linked` is whether the linked language is read. Each
+/// iteration takes a byte or ends, and no more than one byte beyond the limit is read.
 ///
 /// `Failed`: a read failed. `TooLong`: the input had more than `limit` bytes, and `limit + 1` of them were read. Both
 /// come before any refusal.
 pub fn read_input<S: Source>(
     alloc: Global,
+    linked: bool,
     input: &mut S,
     limit: usize,
 ) -> Result<Program, InputError>
     requires { limit < 2 ^ 31 }
-    ensures answers { Answers (S.left input.old) (S.left input.new) (S.faults input.old) (S.faults input.new) limit
-        result }
+    ensures answers { Answers linked (S.left input.old) (S.left input.new) (S.faults input.old) (S.faults input.new)
+        limit result }
     ensures counts { S.faults input.old ≤ S.faults input.new }
 {
     let mut chunk = Vec::new(alloc);
-    let mut reader = ProgramReader::new(alloc);
+    let mut reader = ProgramReader::new(alloc, linked);
     let mut taken = 0;
     while taken <= limit {
         chunk.resize(piece_size(taken, limit + 1 - taken), 0)?;
@@ -79,7 +80,7 @@ fn read_piece<S: Source>(input: &mut S, chunk: &mut Vec<u8>) -> Result<usize, Fa
 /// The answer of a reader that was given a whole text.
 fn finished(alloc: Global, reader: ProgramReader) -> Result<Program, InputError>
     requires { reader.program.lines + 1 < 2 ^ 32 }
-    ensures { (text : List ℕ) → IsReadingOf reader text → AnswersText text result }
+    ensures { (linked : Bool) (text : List ℕ) → IsReadingOf linked reader text → AnswersText linked text result }
 {
     match reader.finish(alloc) {
         Ok(program) => Ok(program),

@@ -40,13 +40,13 @@ pub struct PartialProgram {
 }
 
 impl PartialProgram {
-    /// Nothing yet.
-    pub fn new(alloc: Global) -> PartialProgram
-        ensures { result ≡ record { lines = 0; scan = start; meta = None; functions = []; refused = None } }
+    /// Nothing yet; `linked` is whether the linked language is read.
+    pub fn new(alloc: Global, linked: bool) -> PartialProgram
+        ensures { result ≡ record { lines = 0; scan = start linked; meta = None; functions = []; refused = None } }
     {
         PartialProgram {
             lines: 0,
-            scan: Scan::new(alloc),
+            scan: Scan::new(alloc, linked),
             meta: None,
             functions: List::new(alloc),
             refused: None,

@@ -1,6 +1,6 @@
 //! The reader of a program's bytes, as they come.
 
-ghost use Rattle.std.specs.Prelude.{◌≡◌, ◌+◌, ◌^◌, ◌<◌, ◌≤◌, ◌++◌, ◌∷◌, ℕ, List, [], length, OnOk, None};
+ghost use Rattle.std.specs.Prelude.{◌≡◌, ◌+◌, ◌^◌, ◌<◌, ◌≤◌, ◌++◌, ◌∷◌, ℕ, Bool, List, [], length, OnOk, None};
 ghost use Rattle.read_program.specs.Program.{ReadsText, UnlessMemory};
 ghost use Rattle.read_input.specs.Reading.{IsReadingOf, IsSettled, AnswersAs};
 
@@ -22,14 +22,14 @@ pub struct ProgramReader {
 }
 
 impl ProgramReader {
-    /// The reader before the first byte.
-    pub fn new(alloc: Global) -> ProgramReader
-        ensures reading { IsReadingOf result [] }
+    /// The reader before the first byte; `linked` is whether the linked language is read.
+    pub fn new(alloc: Global, linked: bool) -> ProgramReader
+        ensures reading { IsReadingOf linked result [] }
         ensures lines { result.program.lines ≡ 0 }
     {
         ProgramReader {
             line: List::new(alloc),
-            program: PartialProgram::new(alloc),
+            program: PartialProgram::new(alloc, linked),
         }
     }
 
@@ -37,8 +37,8 @@ impl ProgramReader {
     pub fn feed(&mut self, alloc: Global, bytes: &[u8]) -> Result<(), AllocError>
         requires { self.old.program.lines + length bytes.now < 2 ^ 32 }
         ensures lines { OnOk result (self.new.program.lines ≤ self.old.program.lines + length bytes.now) }
-        ensures reading { OnOk result ((front : List ℕ) → IsReadingOf self.old front →
-            IsReadingOf self.new (front ++ bytes.now)) }
+        ensures reading { OnOk result ((linked : Bool) (front : List ℕ) → IsReadingOf linked self.old front →
+            IsReadingOf linked self.new (front ++ bytes.now)) }
     {
         let mut rest = bytes;
         while self.program.refused.is_none() {
@@ -56,9 +56,9 @@ impl ProgramReader {
         requires unrefused { self.old.program.refused ≡ None }
         requires few { self.old.program.lines + 1 < 2 ^ 32 }
         ensures lines { OnOk result (self.new.program.lines ≡ self.old.program.lines + 1) }
-        ensures reading { OnOk result ((front : List ℕ) →
-            IsReadingOf (record self.old { line = self.old.line ++ end.now }) front →
-            IsReadingOf self.new (front ++ 10 ∷ [])) }
+        ensures reading { OnOk result ((linked : Bool) (front : List ℕ) →
+            IsReadingOf linked (record self.old { line = self.old.line ++ end.now }) front →
+            IsReadingOf linked self.new (front ++ 10 ∷ [])) }
     {
         if self.line.is_empty() {
             return self.program.take(alloc, without_carriage_return(end));
@@ -72,8 +72,8 @@ impl ProgramReader {
         requires unrefused { self.old.program.refused ≡ None }
         requires few { self.old.program.lines + 1 < 2 ^ 32 }
         ensures lines { OnOk result (self.new.program.lines ≡ self.old.program.lines + 1) }
-        ensures reading { OnOk result ((front : List ℕ) → IsReadingOf self.old front →
-            IsReadingOf self.new (front ++ 10 ∷ [])) }
+        ensures reading { OnOk result ((linked : Bool) (front : List ℕ) → IsReadingOf linked self.old front →
+            IsReadingOf linked self.new (front ++ 10 ∷ [])) }
     {
         let mut line = mem::replace(&mut self.line, List::new(alloc));
         let text = without_carriage_return(line.as_slice());
@@ -86,7 +86,8 @@ impl ProgramReader {
     /// The program in the bytes that were taken, which are all. The error is the first refusal, or want of memory.
     pub fn finish(self, alloc: Global) -> Result<Program, ParseError>
         requires { self.program.lines + 1 < 2 ^ 32 }
-        ensures { (text : List ℕ) → IsReadingOf self text → UnlessMemory result (ReadsText text result) }
+        ensures { (linked : Bool) (text : List ℕ) → IsReadingOf linked self text →
+            UnlessMemory result (ReadsText linked text result) }
     {
         let ProgramReader { line, mut program } = self;
         program.take_last(alloc, line.as_slice())?;

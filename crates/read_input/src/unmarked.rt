@@ -27,7 +27,7 @@ pub fn parse_unmarked(
     ensures { IfOk result (λ read. IfSome read (λ p. (meta : Maps) → Parses meta document.now (Ok p))) }
 {
     match declared(alloc, document)? {
-        Some(declared) => match unmarked(alloc, document.body.as_slice())? {
+        Some(declared) => match unmarked(alloc, document.linked, document.body.as_slice())? {
             Some(body) => closed(alloc, document.closed, declared, body),
             None => Ok(None),
         },
@@ -48,11 +48,11 @@ fn declared(alloc: Global, document: &FunctionDocument) -> Result<Option<Declara
 }
 
 /// The body of lines without debug values; `None` if they have one, or are refused.
-fn unmarked(alloc: Global, lines: &[Line]) -> Result<Option<Body>, AllocError>
-    ensures { IfOk result (λ read. IfSome read (λ body. (meta : Maps) → body_of meta lines.now ≡ Ok body)) }
+fn unmarked(alloc: Global, linked: bool, lines: &[Line]) -> Result<Option<Body>, AllocError>
+    ensures { IfOk result (λ read. IfSome read (λ body. (meta : Maps) → body_of linked meta lines.now ≡ Ok body)) }
 {
     let none = read_meta(alloc, &List::new(alloc))?;
-    match read_body(alloc, lines, &none)? {
+    match read_body(alloc, linked, lines, &none)? {
         Ok(body) => {
             if body.variables.is_empty() {
                 Ok(Some(body))

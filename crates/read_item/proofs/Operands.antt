@@ -1,16 +1,17 @@
 -- Reading operands one by one: what is read and what is left make the whole, by the last operand of what is read.
-use Rattle.std.proofs.Common.{◌≡◌, ℕ, ◌+◌, ◌<◌, ◌≤◌, List, [], ◌∷◌, ◌++◌, Option, Some, None, length, get_or, drop, refl, sym, ap, ◌∙◌, append_assoc}
-use Rattle.std.proofs.Common.{append-nil, add-one, drop-cons}
-use Rattle.std.proofs.lemmas.List.{drop_all}
+use Rattle.std.proofs.Common.{◌≡◌, ℕ, ◌+◌, ◌-◌, ◌<◌, ◌≤◌, List, [], ◌∷◌, ◌++◌, Option, Some, None, length, get_or, take, drop, refl, sym, ap, ◌∙◌}
+use Rattle.std.proofs.Common.{append_assoc, append-nil, add-one, drop-cons, arith}
+use Rattle.std.proofs.Math.Seq.{take-length}
+use Rattle.std.proofs.lemmas.List.{drop_all, drop_more, length-drop}
 use Rattle.rv64_instr.specs.declared.operand.Operand.{Operand}
 use Rattle.read_line.specs.declared.form.RegisterForm.{RegisterForm}
 use Rattle.read_line.specs.declared.form.OperandForm.{OperandForm}
 use Rattle.read_item.specs.declared.place.OperandKind.{OperandKind}
 use Rattle.read_item.specs.Place.{front, behind}
-use Rattle.read_item.specs.Code.{before, append_to, definition, definitions, operand_at, placed}
+use Rattle.read_item.specs.Code.{before, append_to, definition, definitions, operand_at, placed, placed_behind_callee}
 
 -- one operand more is read
-append-before : (xs : List Operand) (o : Operand) (rest : Option (List Operand)) → append_to xs (before (Some o) rest) ≡ append_to (xs ++ o ∷ []) rest
+pub append-before : (xs : List Operand) (o : Operand) (rest : Option (List Operand)) → append_to xs (before (Some o) rest) ≡ append_to (xs ++ o ∷ []) rest
 append-before xs o None = refl
 append-before xs o (Some ys) = ap (λ (zs : List Operand). Some zs) (sym (append_assoc xs (o ∷ []) ys))
 
@@ -69,3 +70,16 @@ pub placed-end : (xs : List Operand) (ps : List OperandKind) (os : List OperandF
 unfolding placed
 placed-end xs ps os i whole h all =
     ap (λ (zs : List Operand). Some zs) (sym (append-nil xs)) ∙ (ap (λ (zs : List OperandForm). append_to xs (placed ps zs)) (sym (drop_all i os h)) ∙ all)
+
+-- ---- a call by a register
+
+-- no operands
+pub callee_none : (xs : List Operand) (ps : List OperandKind) (os : List OperandForm) → length os < 1 → Some xs ≡ append_to xs (placed_behind_callee ps os)
+callee_none xs ps [] less = ap (λ (zs : List Operand). Some zs) (sym (append-nil xs))
+callee_none xs ps (o ∷ os) less = absurd (omega (arith, less))
+
+-- operands, by the first and the others
+pub first_and_rest : (os : List OperandForm) (o : OperandForm) → 1 ≤ length os → o ≡ get_or os 0 o → o ∷ take (length os - 1) (drop 1 os) ≡ os
+first_and_rest os o some is =
+    ap (λ (n : ℕ). o ∷ take n (drop 1 os)) (sym (length-drop 1 os)) ∙ ap (λ (t : List OperandForm). o ∷ t) (take-length (drop 1 os))
+    ∙ ap (λ (y : OperandForm). y ∷ drop 1 os) is ∙ sym (drop_more os 0 o (omega (arith, some)))

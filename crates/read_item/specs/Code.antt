@@ -8,7 +8,10 @@ use Rattle.rv64_instr.specs.declared.op.Op.{Op}
 use Rattle.rv64_instr.specs.declared.op.Op.TheVariants.{Load, Store}
 use Rattle.rv64_instr.specs.declared.operand.Operand.{Operand}
 use Rattle.rv64_instr.specs.declared.operand.Operand.TheVariants as operand
+use Rattle.rv64_instr.specs.declared.symbol.Half.{Half}
+use Rattle.rv64_instr.specs.declared.symbol.Symbol.{Symbol}
 use Rattle.rv64_instr.specs.Form.{has_form, moves_slot}
+pub use Rattle.rv64_instr.specs.Form.{has_register_callee}
 use Rattle.rv64_instr.specs.Arithmetic.{load_width, store_width}
 use Rattle.rv64_instr.specs.Instruction.{Instruction}
 use Rattle.read_token.specs.declared.lexeme.Flag.{Flag}
@@ -74,28 +77,42 @@ abbrev pub used : Flag → Option ℕ → Option Operand
 used flag None = None
 used flag (Some r) = Some (named flag r)
 
--- `%stack.N` at an operand position. At a position that takes none it counts as an operand that fits, since it has a check of its own; at an implicit
--- position it is none
+-- an operand that fits a position, for one that has a check of its own; at an implicit position it is none
+abbrev pub stand_in : OperandKind → Option Operand
+stand_in place.Object = Some (operand.Use STAND_IN)
+stand_in place.Slot = Some (operand.Use STAND_IN)
+stand_in place.Register = Some (operand.Use STAND_IN)
+stand_in place.Number = Some (operand.Imm (pos 0))
+stand_in place.Block = Some (operand.Block 0)
+stand_in place.Symbol = Some (operand.Symbol [])
+stand_in place.Mask = Some operand.Mask
+stand_in place.Implicit = None
+
+-- `%stack.N` at an operand position. At a position that takes none it counts as an operand that fits
 abbrev pub stack_operand : OperandKind → ℕ → Option Operand
 stack_operand place.Object n = Some (operand.Object n)
 stack_operand place.Slot n = Some (operand.Slot n)
-stack_operand place.Register n = Some (operand.Use STAND_IN)
-stack_operand place.Number n = Some (operand.Imm (pos 0))
-stack_operand place.Block n = Some (operand.Block 0)
-stack_operand place.Symbol n = Some (operand.Symbol [])
-stack_operand place.Mask n = Some operand.Mask
-stack_operand place.Implicit n = None
+stack_operand p n = stand_in p
 
 -- an immediate, if the integer fits 64 bits signed
 abbrev pub number_operand : Option ℤ → Option Operand
 number_operand None = None
 number_operand (Some i) = Some (operand.Imm i)
 
+-- a half of an address, if what is added fits 32 bits signed
+abbrev pub half_operand : Half → Symbol → Option ℤ → Option Operand
+half_operand half symbol None = None
+half_operand half symbol (Some addend) = Some (operand.Part half (record { symbol = symbol; addend = addend }))
+
 -- the instruction operand for an operand of the line at a position; none if it can't be one in code
 abbrev pub operand_at : OperandKind → OperandForm → Option Operand
 operand_at p (form.Register r) = used r.flag (number_of r.flag r.name)
 operand_at p (form.Integer i) = number_operand i
 operand_at p (form.Slot n) = stack_operand p n
+operand_at p (form.Fixed n) = stand_in p
+operand_at p (form.Part half a) = half_operand half a.symbol a.addend
+operand_at p (form.Address a) = None
+operand_at p form.Literal = None
 operand_at p (form.Block n) = Some (operand.Block n)
 operand_at p (form.Symbol name) = Some (operand.Symbol name)
 operand_at p form.Mask = Some operand.Mask
@@ -140,6 +157,33 @@ unfoldable pub placed : List OperandKind → List OperandForm → Option (List O
 placed ps [] = Some []
 placed ps (o ∷ os) = before (operand_at (front ps) o) (placed (behind ps) os)
 
+-- the register of a call by a register or in tail position, which is its first implicit use. The stack pointer and virtual registers have checks of their own
+abbrev pub called : Option ℕ → Option Operand
+called None = None
+called (Some r) = Some (operand.ImplicitUse (if nat_eq r 2 then STAND_IN else r))
+
+-- the same, if it has no flag
+abbrev pub callee_register : Flag → RegisterName → Option Operand
+callee_register Plain name = called (number_of Implicit name)
+callee_register Implicit name = None
+callee_register ImplicitDef name = None
+
+-- the operand for the register of such a call; a `%stack.N` counts as one that fits, since it has a check of its own
+abbrev pub callee_operand : OperandForm → Option Operand
+callee_operand (form.Register r) = callee_register r.flag r.name
+callee_operand (form.Slot n) = Some (operand.ImplicitUse STAND_IN)
+callee_operand (form.Fixed n) = Some (operand.ImplicitUse STAND_IN)
+callee_operand _ = None
+
+-- the operands after the opcode of such a call
+abbrev pub placed_behind_callee : List OperandKind → List OperandForm → Option (List Operand)
+placed_behind_callee ps [] = Some []
+placed_behind_callee ps (o ∷ os) = before (callee_operand o) (placed (behind ps) os)
+
+-- the operands after the opcode, each at its position, if each exists
+abbrev pub placed_by : Op → List OperandKind → List OperandForm → Option (List Operand)
+placed_by op ps os = if has_register_callee op then placed_behind_callee ps os else placed ps os
+
 -- whether a load or store of this width with this offset operand accesses a whole spill slot: eight bytes at offset 0
 abbrev pub is_whole_slot : (width : ℕ) → OperandForm → Bool
 is_whole_slot width (form.Integer (Some i)) = moves_slot width i
@@ -157,7 +201,7 @@ places_of op line = places op (names_slot op line.operands)
 
 -- the operands of the instruction, defs first, if each exists
 unfoldable pub operands_of : Op → ItemForm → Option (List Operand)
-operands_of op line = joined (definitions line.definitions) (placed (places_of op line) line.operands)
+operands_of op line = joined (definitions line.definitions) (placed_by op (places_of op line) line.operands)
 
 -- whether the operands exist and have the form of the opcode
 abbrev pub fits : Op → Option (List Operand) → Bool
@@ -179,6 +223,24 @@ is_refused_virtual r =
 abbrev pub is_refused_operand : OperandForm → Bool
 is_refused_operand (form.Register r) = is_refused_virtual r
 is_refused_operand _ = false
+
+-- whether a register is virtual
+abbrev pub is_virtual : RegisterName → Bool
+is_virtual (Physical n) = false
+is_virtual Absent = false
+is_virtual Other = false
+is_virtual (Virtual n) = true
+
+-- whether the operands begin with a virtual register
+abbrev pub begins_with_virtual : List OperandForm → Bool
+begins_with_virtual (form.Register r ∷ rest) = is_virtual r.name
+begins_with_virtual _ = false
+
+-- whether a register that is refused is virtual: a definition or an operand, or the register of a call by a register, which is an implicit use
+abbrev pub names_refused : Op → ItemForm → Bool
+names_refused op line =
+    (list_any is_refused_virtual line.definitions || list_any is_refused_operand line.operands)
+    || (has_register_callee op && begins_with_virtual line.operands)
 
 -- whether a register is the physical one of this number, without a flag
 abbrev pub is_named : Flag → RegisterName → ℕ → Bool
@@ -205,9 +267,14 @@ is_address place.Object = true
 is_address place.Slot = true
 is_address _ = false
 
--- whether an operand is `%stack.N` at a position that takes none
+-- whether an operand is a fixed stack object, which no position takes
+abbrev pub is_fixed : OperandForm → Bool
+is_fixed (form.Fixed n) = true
+is_fixed _ = false
+
+-- whether an operand is `%stack.N` at a position that takes none, or a fixed stack object
 abbrev pub is_misplaced : OperandKind × OperandForm → Bool
-is_misplaced at = is_stack at.1 && not (is_address at.0)
+is_misplaced at = (is_stack at.1 && not (is_address at.0)) || is_fixed at.1
 
 -- whether the line has too many operands
 abbrev pub is_long : ItemForm → Bool
@@ -217,7 +284,7 @@ is_long line = nat_lt MAX_OPERANDS (length line.definitions + length line.operan
 abbrev pub code_rules : Op → ItemForm → List Rule
 code_rules op line =
     record { broken = line.exceeds || not (fits op (operands_of op line)); refusal = kinds.BadOperands } ∷
-    record { broken = list_any is_refused_virtual line.definitions || list_any is_refused_operand line.operands; refusal = kinds.VirtualRegister } ∷
+    record { broken = names_refused op line; refusal = kinds.VirtualRegister } ∷
     record { broken = list_any is_pointer line.definitions || list_any is_pointer_operand line.operands; refusal = kinds.StackPointerUse } ∷
     record { broken = list_any is_misplaced (zip (places_of op line) line.operands); refusal = kinds.StackObject } ∷
     record { broken = is_long line; refusal = kinds.TooMany } ∷ []

@@ -60,6 +60,10 @@ abbrev pub operand_value : OperandForm → MarkValue
 operand_value (form.Register r) = register_value r.flag r.name
 operand_value (form.Integer i) = number_value i
 operand_value (form.Slot n) = Nothing
+operand_value (form.Fixed n) = Nothing
+operand_value (form.Part half a) = Nothing
+operand_value (form.Address a) = Nothing
+operand_value form.Literal = Nothing
 operand_value (form.Block n) = Nothing
 operand_value (form.Symbol name) = Nothing
 operand_value form.Mask = Nothing
@@ -149,10 +153,15 @@ register_place Plain (Virtual n) = virtual_place (virtual_register n)
 register_place Implicit name = None
 register_place ImplicitDef name = None
 
--- the location of a DBG_PHI by its first operand: a register, `$noreg` for none, or a spill slot. The outer option is empty if the operand isn't allowed
+-- the location of a DBG_PHI by its first operand: a register, `$noreg` or a fixed stack object for none, or a spill slot. The outer option is empty if the
+-- operand isn't allowed
 abbrev pub phi_place : OperandForm → Option (Option Place)
 phi_place (form.Register r) = register_place r.flag r.name
 phi_place (form.Slot n) = Some (Some (content.Slot n))
+phi_place (form.Fixed n) = Some None
+phi_place (form.Part half a) = None
+phi_place (form.Address a) = None
+phi_place form.Literal = None
 phi_place (form.Integer i) = None
 phi_place (form.Block n) = None
 phi_place (form.Symbol name) = None

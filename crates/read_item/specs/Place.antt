@@ -43,7 +43,7 @@ places PseudoCall slot = Symbol ∷ Mask ∷ []
 places PseudoRet slot = []
 places PseudoCallIndirect slot = Implicit ∷ Mask ∷ []
 places PseudoTail slot = Symbol ∷ []
-places PseudoTailIndirect slot = []
+places PseudoTailIndirect slot = Implicit ∷ []
 places NoReturnCall slot = Symbol ∷ Mask ∷ []
 places NoReturnCallIndirect slot = Implicit ∷ Mask ∷ []
 

@@ -1,6 +1,6 @@
 //! The instruction that a line of code is.
 
-ghost use Rattle.std.specs.Prelude.{◌≡◌, ◌||◌, IfOk, Ok, Err};
+ghost use Rattle.std.specs.Prelude.{◌≡◌, ◌&&◌, ◌||◌, IfOk, Ok, Err};
 ghost use Rattle.std.specs.List.{list_any, zip};
 ghost use Rattle.read_refusal.specs.declared.kind.RefusalKind.{RefusalKind};
 ghost use Rattle.read_item.specs.declared.judged.JudgeError.TheVariants.{Refused};
@@ -8,10 +8,14 @@ ghost use Rattle.read_item.specs.Code.{
   is_refused_number,
   is_refused_virtual,
   is_refused_operand,
+  is_virtual,
+  begins_with_virtual,
+  has_register_callee,
   is_pointer,
   is_pointer_operand,
   is_misplaced,
   is_stack,
+  is_fixed,
   is_long,
   places_of,
   code_of,
@@ -90,12 +94,34 @@ fn uses_refused(forms: &[OperandForm]) -> bool
 }
 
 /// Whether a line names a virtual register that is refused.
-fn names_refused(line: &ItemForm) -> bool
+pub fn names_refused_register(line: &ItemForm) -> bool
     ensures { result ≡ (list_any is_refused_virtual line.now.definitions || list_any is_refused_operand line.now.operands) }
 {
     let set = sets_refused(line.definitions.as_slice());
     let used = uses_refused(line.operands.as_slice());
     set || used
+}
+
+fn is_virtual(name: RegisterName) -> bool
+    ensures { result ≡ is_virtual name }
+{
+    matches!(name, RegisterName::Virtual(_))
+}
+
+fn begins_with_virtual(forms: &[OperandForm]) -> bool
+    ensures { result ≡ begins_with_virtual forms.now }
+{
+    match forms {
+        [OperandForm::Register(register), ..] => is_virtual(register.name),
+        _ => false,
+    }
+}
+
+/// Whether the register of a call by a register is virtual.
+fn names_virtual_callee(op: Op, line: &ItemForm) -> bool
+    ensures { result ≡ (has_register_callee op && begins_with_virtual line.now.operands) }
+{
+    op.has_register_callee() && begins_with_virtual(line.operands.as_slice())
 }
 
 fn sets_pointer(registers: &[RegisterForm]) -> bool
@@ -111,7 +137,7 @@ fn uses_pointer(forms: &[OperandForm]) -> bool
 }
 
 /// Whether a line names x2 without a flag.
-fn names_pointer(line: &ItemForm) -> bool
+pub fn names_pointer(line: &ItemForm) -> bool
     ensures { result ≡ (list_any is_pointer line.now.definitions || list_any is_pointer_operand line.now.operands) }
 {
     let set = sets_pointer(line.definitions.as_slice());
@@ -119,7 +145,7 @@ fn names_pointer(line: &ItemForm) -> bool
     set || used
 }
 
-/// Whether an operand is `%stack.N` at a position that takes none.
+/// Whether an operand is `%stack.N` at a position that takes none, or a fixed stack object.
 fn is_misplaced(place: OperandKind, form: &OperandForm) -> bool
     ensures { result ≡ is_misplaced (place, form.now) }
 {
@@ -128,6 +154,7 @@ fn is_misplaced(place: OperandKind, form: &OperandForm) -> bool
             OperandKind::Object | OperandKind::Slot => false,
             _ => true,
         },
+        OperandForm::Fixed(_) => true,
         _ => false,
     }
 }
@@ -168,7 +195,7 @@ pub fn code_of(alloc: Global, op: Op, line: &ItemForm) -> Result<Instr, JudgeErr
     if line.exceeds {
         return Err(JudgeError::Refused(RefusalKind::BadOperands));
     }
-    if names_refused(line) {
+    if names_refused_register(line) || names_virtual_callee(op, line) {
         return Err(JudgeError::Refused(RefusalKind::VirtualRegister));
     }
     if names_pointer(line) {

@@ -87,6 +87,10 @@ fn operand_value(form: &OperandForm) -> MarkValue
         OperandForm::Integer(Some(number)) => MarkValue::Constant(*number),
         OperandForm::Integer(None)
         | OperandForm::Slot(_)
+        | OperandForm::Fixed(_)
+        | OperandForm::Part(_, _)
+        | OperandForm::Address(_)
+        | OperandForm::Literal
         | OperandForm::Block(_)
         | OperandForm::Symbol(_)
         | OperandForm::Mask
@@ -291,7 +295,11 @@ fn phi_place(form: &OperandForm) -> Option<Option<Place>>
             Flag::Implicit | Flag::ImplicitDef => None,
         },
         OperandForm::Slot(slot) => Some(Some(Place::Slot(*slot))),
+        OperandForm::Fixed(_) => Some(None),
         OperandForm::Integer(_)
+        | OperandForm::Part(_, _)
+        | OperandForm::Address(_)
+        | OperandForm::Literal
         | OperandForm::Block(_)
         | OperandForm::Symbol(_)
         | OperandForm::Mask

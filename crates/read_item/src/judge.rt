@@ -8,18 +8,25 @@ ghost use Rattle.read_item.specs.Judge.{
   entries_of,
   numbered,
   item_of,
+  two_of,
   is_zero,
   begins_with_zeros,
+  is_integer,
+  begins_with_integers,
+  is_call_frame,
   judged,
 };
 ghost use Rattle.read_item.specs.Code.{code_of};
+ghost use Rattle.read_item.specs.Address.{address_of};
 ghost use Rattle.read_item.specs.Debug.{is_empty, debug_of};
 
+use crate::address::address_of;
 use crate::code::code_of;
 use crate::debug::debug_of;
 use crate::judged::{JudgeError, Judged, JudgedItem, StackIds};
-use crate::opcode::{DebugOpcode, Opcode, opcode_of};
+use crate::opcode::{DebugOpcode, Opcode, opcode_of, returning};
 use base_ids::function_ids::SlotId;
+use base_ids::limits::MAX_NUMBER;
 use mir_func::item::ItemKind;
 use read_line::form::{ItemForm, OperandForm};
 use read_metadata::metadata::Metadata;
@@ -27,17 +34,21 @@ use read_refusal::kind::RefusalKind;
 use rv64_instr::op::Op;
 use std::alloc::{AllocError, Global};
 
-/// The N of a `%stack.N`.
+/// What is added to the number of a fixed stack object, among what a line names.
+pub const FIXED: u32 = 1 << 31;
+
+/// The number of a stack entry or of a fixed stack object.
 fn entry_of(form: &OperandForm) -> Option<SlotId>
     ensures { result ≡ entry_of form.now }
 {
     match form {
         OperandForm::Slot(entry) => Some(*entry),
+        OperandForm::Fixed(n) => Some(SlotId(FIXED + (*n).min(MAX_NUMBER))),
         _ => None,
     }
 }
 
-/// The N of each `%stack.N` of a line, in order.
+/// The numbers of what a line names, in order.
 fn entries_of(alloc: Global, forms: &[OperandForm]) -> Result<Vec<SlotId>, AllocError>
     ensures { IfOk result (λ entries. entries.items ≡ entries_of forms.now) }
 {
@@ -47,7 +58,7 @@ fn entries_of(alloc: Global, forms: &[OperandForm]) -> Result<Vec<SlotId>, Alloc
         .collect(alloc)
 }
 
-/// An item with the debug location of its line and the numbers of the `%stack.N` on it.
+/// An item with the debug location of its line and the numbers of what the line names.
 fn item_of(alloc: Global, line: &ItemForm, kind: ItemKind) -> Result<Judged, JudgeError>
     ensures ok { IfOk result (λ item. item_of line.now (Ok kind) ≡ Ok item) }
     ensures refused { (why : RefusalKind) → result ≡ Err (Refused why) → item_of line.now (Ok kind) ≡ Err why }
@@ -68,6 +79,27 @@ fn judge_code(alloc: Global, op: Op, line: &ItemForm) -> Result<Judged, JudgeErr
 {
     let instr = code_of(alloc, op, line)?;
     item_of(alloc, line, ItemKind::Code(instr, line.number))
+}
+
+/// The two items of a line with `PseudoMovAddr`.
+fn judge_address(alloc: Global, line: &ItemForm) -> Result<Judged, JudgeError>
+    ensures ok { IfOk result (λ two. two_of line.now (address_of line.now) ≡ Ok two) }
+    ensures refused { (refusal : RefusalKind) → result ≡ Err (Refused refusal)
+        → two_of line.now (address_of line.now) ≡ Err refusal }
+{
+    let (upper, lower) = address_of(alloc, line)?;
+    let entries = entries_of(alloc, line.operands.as_slice())?;
+    let first = JudgedItem {
+        kind: ItemKind::Code(upper, None),
+        loc: line.loc,
+        entries: StackIds::new(alloc),
+    };
+    let second = JudgedItem {
+        kind: ItemKind::Code(lower, line.number),
+        loc: line.loc,
+        entries: StackIds::from(entries),
+    };
+    Ok(Judged::Two(first, second))
 }
 
 /// The item of a debug line.
@@ -106,27 +138,61 @@ fn begins_with_zeros(forms: &[OperandForm]) -> bool
     }
 }
 
-/// Whether the call frame of an `ADJCALLSTACK` line takes no bytes.
-fn has_no_frame(line: &ItemForm) -> bool
-    ensures { result ≡ (is_empty line.now.definitions && begins_with_zeros line.now.operands) }
+fn is_integer(form: &OperandForm) -> bool
+    ensures { result ≡ is_integer form.now }
 {
-    line.definitions.is_empty() && begins_with_zeros(line.operands.as_slice())
+    matches!(form, OperandForm::Integer(_))
+}
+
+/// Whether operands begin with two integers.
+fn begins_with_integers(forms: &[OperandForm]) -> bool
+    ensures { result ≡ begins_with_integers forms.now }
+{
+    match forms {
+        [first, second, ..] => is_integer(first) && is_integer(second),
+        _ => false,
+    }
+}
+
+/// Whether these are operands of a call frame: in the linked language it may take bytes.
+fn is_call_frame(linked: bool, forms: &[OperandForm]) -> bool
+    ensures { result ≡ is_call_frame linked forms.now }
+{
+    if linked {
+        begins_with_integers(forms)
+    } else {
+        begins_with_zeros(forms)
+    }
+}
+
+/// Whether an `ADJCALLSTACK` line is ignored.
+fn has_call_frame(linked: bool, line: &ItemForm) -> bool
+    ensures { result ≡ (is_empty line.now.definitions && is_call_frame linked line.now.operands) }
+{
+    line.definitions.is_empty() && is_call_frame(linked, line.operands.as_slice())
 }
 
 /// The item that a line is. `Refused` is exactly for a line that fails a check, with the lowest number of its
 /// refusals: an unknown opcode, operands that don't fit the opcode, a virtual register, the stack pointer, a
-/// `%stack.N` at a position that takes none, or more than 64 operands. `Memory` is for want of memory.
+/// `%stack.N` at a position that takes none, or more than 64 operands. `Memory` is for want of memory. `linked` is
+/// whether the opcodes of the linked language are read.
 #[tactic(auto, unfolding(crate::specs::Judge::judged))]
-pub fn judge(alloc: Global, line: &ItemForm, meta: &Metadata) -> Result<Judged, JudgeError>
-    ensures ok { IfOk result (λ item. judged meta.now line.now ≡ Ok item) }
-    ensures refused { (why : RefusalKind) → result ≡ Err (Refused why) → judged meta.now line.now ≡ Err why }
+pub fn judge(
+    alloc: Global,
+    linked: bool,
+    line: &ItemForm,
+    meta: &Metadata,
+) -> Result<Judged, JudgeError>
+    ensures ok { IfOk result (λ item. judged linked meta.now line.now ≡ Ok item) }
+    ensures refused { (why : RefusalKind) → result ≡ Err (Refused why) → judged linked meta.now line.now ≡ Err why }
 {
-    match opcode_of(line.opcode.as_slice()) {
-        Some(Opcode::Code(op)) => judge_code(alloc, op, line),
+    match opcode_of(linked, line.opcode.as_slice()) {
+        Some(Opcode::Code(op)) => judge_code(alloc, returning(linked, line.no_return, op), line),
+        Some(Opcode::Address) => judge_address(alloc, line),
         Some(Opcode::Debug(op)) => judge_debug(alloc, op, meta, line),
         Some(Opcode::Label) if line.number.is_none() => Ok(Judged::Passed),
         Some(Opcode::Pseudo) => Ok(Judged::Passed),
-        Some(Opcode::CallFrame) if has_no_frame(line) => Ok(Judged::Passed),
+        Some(Opcode::CallFrame) if has_call_frame(linked, line) => Ok(Judged::Passed),
         Some(Opcode::Label | Opcode::CallFrame) => Err(JudgeError::Refused(
             RefusalKind::BadOperands,
         )),

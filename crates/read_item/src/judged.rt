@@ -8,10 +8,11 @@ use read_refusal::kind::RefusalKind;
 use std::alloc::AllocError;
 use thiserror::Error;
 
-/// The N of each `%stack.N` of a line, in order.
+/// The numbers of what a line names and its function has to declare, in order: N for `%stack.N`, and 2^31 and N for
+/// `%fixed-stack.N`.
 pub type StackIds = List<SlotId>;
 
-/// An item, with its debug location and the `%stack.N` on its line.
+/// An item, with its debug location and what its line names.
 #[derive(Debug, Drop)]
 pub struct JudgedItem {
     /// The instruction, debug value or DBG_PHI. A `%stack.N` in an instruction is a spill slot if the line is a load
@@ -19,7 +20,7 @@ pub struct JudgedItem {
     pub kind: ItemKind,
     /// The debug location of its line.
     pub loc: Loc,
-    /// The numbers of the `%stack.N` on its line, which the function has to declare.
+    /// The numbers of what its line names, which the function has to declare.
     pub entries: StackIds,
 }
 
@@ -30,6 +31,8 @@ pub enum Judged {
     Passed,
     /// An item.
     Item(JudgedItem),
+    /// Two items, one after the other.
+    Two(JudgedItem, JudgedItem),
 }
 
 /// Why a line is no item and isn't ignored either.

@@ -9,6 +9,7 @@
 //! Machine IR (MIR) Format Reference Manual; LLVM, "Instruction referencing for debug info".)
 #![tactic(auto)]
 
+pub mod address;
 pub mod code;
 pub mod debug;
 pub mod judge;

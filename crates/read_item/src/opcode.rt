@@ -1,7 +1,16 @@
 //! Opcodes of item lines.
 
 ghost use Rattle.std.specs.Prelude.{◌≡◌, Some, None};
-ghost use Rattle.read_item.specs.Opcode.{opcode_of, debug_opcode_of, op_named, is_read, if_read};
+ghost use Rattle.read_item.specs.Opcode.{
+  opcode_of,
+  other_opcode_of,
+  debug_opcode_of,
+  op_named,
+  is_read,
+  if_read,
+  without_return,
+  returning,
+};
 
 use rv64_instr::op::Op;
 
@@ -23,42 +32,68 @@ pub enum DebugOpcode {
 pub enum Opcode {
     /// An instruction.
     Code(Op),
+    /// `PseudoMovAddr`: the two instructions that set a register to an address.
+    Address,
     /// A debug value or DBG_PHI.
     Debug(DebugOpcode),
     /// `DBG_LABEL`, which is ignored.
     Label,
     /// `KILL` and `IMPLICIT_DEF`, which are ignored with any operands.
     Pseudo,
-    /// `ADJCALLSTACKDOWN` and `ADJCALLSTACKUP`, which are ignored if the call frame takes no bytes, and else refused.
+    /// `ADJCALLSTACKDOWN` and `ADJCALLSTACKUP`, which are ignored, but refused outside the linked language if the call
+    /// frame takes bytes.
     CallFrame,
 }
 
 /// The opcode of an instruction with this mnemonic that is read.
-fn op_named(name: &[u8]) -> Option<Op>
-    ensures { result ≡ op_named name.now }
+fn op_named(linked: bool, name: &[u8]) -> Option<Op>
+    ensures { result ≡ op_named linked name.now }
 {
-    if_read(Op::from_mnemonic(name))
+    if_read(linked, Op::from_mnemonic(name))
 }
 
-fn if_read(found: Option<Op>) -> Option<Op>
-    ensures { result ≡ if_read found }
+fn if_read(linked: bool, found: Option<Op>) -> Option<Op>
+    ensures { result ≡ if_read linked found }
 {
     match found {
-        Some(op) => { if is_read(op) { Some(op) } else { None } }
+        Some(op) => { if is_read(linked, op) { Some(op) } else { None } }
         None => None,
     }
 }
 
-/// Whether an opcode is read: a call by a register, in tail position, or that doesn't return is refused.
-fn is_read(op: Op) -> bool
-    ensures { result ≡ is_read op }
+/// The opcode of a call with the word `noreturn` before it.
+pub fn without_return(op: Op) -> Op
+    ensures { result ≡ without_return op }
+{
+    match op {
+        Op::PseudoCall => Op::NoReturnCall,
+        Op::PseudoCallIndirect => Op::NoReturnCallIndirect,
+        _ => op,
+    }
+}
+
+/// The opcode of a line of code: the word `noreturn` counts in the linked language alone.
+pub fn returning(linked: bool, no_return: bool, op: Op) -> Op
+    ensures { result ≡ returning linked no_return op }
+{
+    if linked && no_return {
+        without_return(op)
+    } else {
+        op
+    }
+}
+
+/// Whether an opcode is read: a call by a register, in tail position, or that doesn't return is one of the linked
+/// language.
+fn is_read(linked: bool, op: Op) -> bool
+    ensures { result ≡ is_read linked op }
 {
     match op {
         Op::PseudoCallIndirect
         | Op::PseudoTail
         | Op::PseudoTailIndirect
         | Op::NoReturnCall
-        | Op::NoReturnCallIndirect => false,
+        | Op::NoReturnCallIndirect => linked,
         Op::Registers(_)
         | Op::Immediate(_)
         | Op::Lui
@@ -96,13 +131,25 @@ fn debug_opcode_of(name: &[u8]) -> Option<Opcode>
     }
 }
 
-/// The opcode with this name, and `None` exactly if there is none.
-#[tactic(auto, unfolding(crate::specs::Opcode::opcode_of))]
-pub fn opcode_of(name: &[u8]) -> Option<Opcode>
-    ensures { result ≡ opcode_of name.now }
+/// The opcode with this name that isn't one of an instruction.
+fn other_opcode_of(linked: bool, name: &[u8]) -> Option<Opcode>
+    ensures { result ≡ other_opcode_of linked name.now }
 {
-    match op_named(name) {
+    if linked && name == b"PseudoMovAddr".as_slice() {
+        Some(Opcode::Address)
+    } else {
+        debug_opcode_of(name)
+    }
+}
+
+/// The opcode with this name, and `None` exactly if there is none; `linked` is whether those of the linked language are
+/// read.
+#[tactic(auto, unfolding(crate::specs::Opcode::opcode_of))]
+pub fn opcode_of(linked: bool, name: &[u8]) -> Option<Opcode>
+    ensures { result ≡ opcode_of linked name.now }
+{
+    match op_named(linked, name) {
         Some(op) => Some(Opcode::Code(op)),
-        None => debug_opcode_of(name),
+        None => other_opcode_of(linked, name),
     }
 }

@@ -1,15 +1,24 @@
 //! Operands of instructions, from the operands of a line.
 
 ghost use Rattle.std.specs.Prelude.{◌≡◌, IfOk, Ok, Some};
+ghost use Rattle.read_item.specs.Address.{address_operands};
 ghost use Rattle.read_item.specs.Code.{
   virtual_register,
   virtual_operand,
   number_of,
   named,
+  stand_in,
   stack_operand,
+  half_operand,
   operand_at,
+  called,
+  callee_register,
+  callee_operand,
+  placed_behind_callee,
+  placed_by,
   definition,
   definitions,
+  before,
   placed,
   joined,
   append_to,
@@ -19,15 +28,16 @@ ghost use Rattle.read_item.specs.Code.{
   places_of,
 };
 
-use crate::place::{OperandKind, behind, front, places};
+use crate::place::{ADDRESS, OperandKind, behind, front, places};
 use base_ids::function_ids::{BlockId, ObjectId, SlotId};
-use read_line::form::{ItemForm, OperandForm, RegisterForm};
+use read_line::form::{AddressForm, ItemForm, OperandForm, RegisterForm};
 use read_token::lexeme::{Flag, RegisterName};
 use rv64_instr::arithmetic::{load_width, store_width};
 use rv64_instr::name::Name;
 use rv64_instr::op::Op;
 use rv64_instr::operand::{Operand, Operands};
 use rv64_instr::reg::{Reg, physical};
+use rv64_instr::symbol::{Half, LinkedAddress};
 use std::alloc::{AllocError, Global};
 
 /// The virtual register `%N`, and `None` after `%4095`.
@@ -73,6 +83,22 @@ fn named(flag: Flag, register: Reg) -> Operand
     }
 }
 
+/// An operand that fits a position, for one that has a check of its own.
+fn stand_in(alloc: Global, place: OperandKind) -> Option<Operand>
+    ensures { result ≡ stand_in place }
+{
+    match place {
+        OperandKind::Object | OperandKind::Slot | OperandKind::Register => {
+            Some(Operand::Use(physical(10)?))
+        }
+        OperandKind::Number => Some(Operand::Imm(0)),
+        OperandKind::Block => Some(Operand::Block(BlockId(0))),
+        OperandKind::Symbol => Some(Operand::Symbol(Name::new(alloc))),
+        OperandKind::Mask => Some(Operand::Mask),
+        OperandKind::Implicit => None,
+    }
+}
+
 /// `%stack.N` at an operand position; at one that takes none, an operand that fits.
 fn stack_operand(alloc: Global, place: OperandKind, entry: SlotId) -> Option<Operand>
     ensures { result ≡ stack_operand place entry }
@@ -80,12 +106,25 @@ fn stack_operand(alloc: Global, place: OperandKind, entry: SlotId) -> Option<Ope
     match place {
         OperandKind::Object => Some(Operand::Object(ObjectId(entry.number()))),
         OperandKind::Slot => Some(Operand::Slot(entry)),
-        OperandKind::Register => Some(Operand::Use(physical(10)?)),
-        OperandKind::Number => Some(Operand::Imm(0)),
-        OperandKind::Block => Some(Operand::Block(BlockId(0))),
-        OperandKind::Symbol => Some(Operand::Symbol(Name::new(alloc))),
-        OperandKind::Mask => Some(Operand::Mask),
-        OperandKind::Implicit => None,
+        OperandKind::Register
+        | OperandKind::Number
+        | OperandKind::Block
+        | OperandKind::Symbol
+        | OperandKind::Mask
+        | OperandKind::Implicit => stand_in(alloc, place),
+    }
+}
+
+/// A half of an address, if what is added fits 32 bits signed.
+fn half_operand(half: Half, address: &AddressForm) -> Result<Option<Operand>, AllocError>
+    ensures { IfOk result (λ operand. operand ≡ half_operand half address.now.symbol address.now.addend) }
+{
+    match address.addend {
+        None => Ok(None),
+        Some(addend) => {
+            let symbol = address.symbol.copy()?;
+            Ok(Some(Operand::Part(half, LinkedAddress { symbol, addend })))
+        }
     }
 }
 
@@ -104,10 +143,14 @@ fn operand_at(
         },
         OperandForm::Integer(Some(number)) => Ok(Some(Operand::Imm(*number))),
         OperandForm::Slot(entry) => Ok(stack_operand(alloc, place, *entry)),
+        OperandForm::Fixed(_) => Ok(stand_in(alloc, place)),
+        OperandForm::Part(half, address) => half_operand(*half, address),
         OperandForm::Block(block) => Ok(Some(Operand::Block(*block))),
         OperandForm::Symbol(name) => Ok(Some(Operand::Symbol(name.copy()?))),
         OperandForm::Mask => Ok(Some(Operand::Mask)),
         OperandForm::Integer(None)
+        | OperandForm::Address(_)
+        | OperandForm::Literal
         | OperandForm::Node(_)
         | OperandForm::Expression(_)
         | OperandForm::Reference(_) => Ok(None),
@@ -159,6 +202,107 @@ fn placed(
     Ok(Some(operands))
 }
 
+/// The register of a call by a register or in tail position, which is its first implicit use.
+fn called(register: Option<Reg>) -> Option<Operand>
+    ensures { result ≡ called register }
+{
+    match register {
+        None => None,
+        Some(register) => {
+            if register.number() == 2 {
+                Some(Operand::ImplicitUse(physical(10)?))
+            } else {
+                Some(Operand::ImplicitUse(register))
+            }
+        }
+    }
+}
+
+fn callee_register(register: RegisterForm) -> Option<Operand>
+    ensures { result ≡ callee_register register.flag register.name }
+{
+    match register.flag {
+        Flag::Plain => called(number_of(Flag::Implicit, register.name)),
+        Flag::Implicit | Flag::ImplicitDef => None,
+    }
+}
+
+/// The operand for the register of such a call; a stack entry counts as one that fits.
+fn callee_operand(form: &OperandForm) -> Option<Operand>
+    ensures { result ≡ callee_operand form.now }
+{
+    match form {
+        OperandForm::Register(register) => callee_register(*register),
+        OperandForm::Slot(_) | OperandForm::Fixed(_) => Some(Operand::ImplicitUse(physical(10)?)),
+        _ => None,
+    }
+}
+
+/// The operands `first` and one more, and then those at these positions.
+fn placed_behind(
+    alloc: Global,
+    first: Operands,
+    operand: Operand,
+    places: &[OperandKind],
+    forms: &[OperandForm],
+) -> Result<Option<Operands>, AllocError>
+    ensures { IfOk result (λ operands. operands ≡ append_to first (before (Some operand) (placed places.now forms.now))) }
+{
+    let mut operands = first;
+    operands.push(operand)?;
+    placed(alloc, operands, places, forms)
+}
+
+/// The same, if there is one more.
+fn placed_behind_some(
+    alloc: Global,
+    first: Operands,
+    operand: Option<Operand>,
+    places: &[OperandKind],
+    forms: &[OperandForm],
+) -> Result<Option<Operands>, AllocError>
+    ensures { IfOk result (λ operands. operands ≡ append_to first (before operand (placed places.now forms.now))) }
+{
+    match operand {
+        Some(operand) => placed_behind(alloc, first, operand, places, forms),
+        None => Ok(None),
+    }
+}
+
+/// The operands `first`, and then those after the opcode of such a call.
+fn placed_behind_callee(
+    alloc: Global,
+    first: Operands,
+    places: &[OperandKind],
+    forms: &[OperandForm],
+) -> Result<Option<Operands>, AllocError>
+    ensures { IfOk result (λ operands. operands ≡ append_to first (placed_behind_callee places.now forms.now)) }
+{
+    match forms {
+        [] => Ok(Some(first)),
+        [callee, rest @ ..] => {
+            placed_behind_some(alloc, first, callee_operand(callee), behind(places), rest)
+        }
+    }
+}
+
+/// The operands `first`, and then those after the opcode, each at its position, if each exists.
+fn placed_by(
+    alloc: Global,
+    op: Op,
+    first: Operands,
+    places: &[OperandKind],
+    forms: &[OperandForm],
+) -> Result<Option<Operands>, AllocError>
+    ensures { IfOk result (λ operands. operands ≡ append_to first (placed_by op places.now forms.now)) }
+{
+    if op.has_register_callee() {
+        placed_behind_callee(alloc, first, places, forms)
+    } else {
+        placed(alloc, first, places, forms)
+    }
+}
+
 /// Whether a load or store of this width with this offset operand accesses a whole spill slot.
 fn is_whole_slot(width: usize, form: &OperandForm) -> bool
     ensures { result ≡ is_whole_slot width form.now }
@@ -199,7 +343,23 @@ pub fn operands_of(alloc: Global, op: Op, line: &ItemForm) -> Result<Option<Oper
     ensures { IfOk result (λ operands. operands ≡ operands_of op line.now) }
 {
     match definitions(alloc, line.definitions.as_slice())? {
-        Some(first) => placed(alloc, first, places_of(op, line), line.operands.as_slice()),
+        Some(first) => placed_by(
+            alloc,
+            op,
+            first,
+            places_of(op, line),
+            line.operands.as_slice(),
+        ),
+        None => Ok(None),
+    }
+}
+
+/// The operands of a `PseudoMovAddr`, defs first, if each exists.
+pub fn address_operands(alloc: Global, line: &ItemForm) -> Result<Option<Operands>, AllocError>
+    ensures { IfOk result (λ operands. operands ≡ address_operands line.now) }
+{
+    match definitions(alloc, line.definitions.as_slice())? {
+        Some(first) => placed(alloc, first, &ADDRESS, line.operands.as_slice()),
         None => Ok(None),
     }
 }

@@ -66,6 +66,11 @@ const HELD_CALL: [OperandKind; 2] = [OperandKind::Implicit, OperandKind::Mask];
 
 const TAIL: [OperandKind; 1] = [OperandKind::Symbol];
 
+const HELD_TAIL: [OperandKind; 1] = [OperandKind::Implicit];
+
+/// The positions of the operands of `PseudoMovAddr`.
+pub const ADDRESS: [OperandKind; 2] = [OperandKind::Number, OperandKind::Number];
+
 /// The positions of an opcode's operands after the opcode, without implicit operands. `slot` is whether `%stack.N` in
 /// an address is a spill slot.
 pub fn places(op: Op, slot: bool) -> &'static [OperandKind]
@@ -84,9 +89,10 @@ pub fn places(op: Op, slot: bool) -> &'static [OperandKind]
         Op::Copy => &COPY,
         Op::PseudoBr => &JUMP,
         Op::PseudoCall | Op::NoReturnCall => &CALL,
-        Op::PseudoRet | Op::PseudoTailIndirect => &RETURN,
+        Op::PseudoRet => &RETURN,
         Op::PseudoCallIndirect | Op::NoReturnCallIndirect => &HELD_CALL,
         Op::PseudoTail => &TAIL,
+        Op::PseudoTailIndirect => &HELD_TAIL,
     }
 }
 

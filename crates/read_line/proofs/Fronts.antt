@@ -1,5 +1,5 @@
 -- Lists of parts are read from left to right.
-use Rattle.std.proofs.Common.{◌≡◌, ℕ, suc, ◌+◌, ◌-◌, ◌<◌, ◌≤◌, List, [], ◌∷◌, ◌++◌, Option, Some, None, refl, sym, ap, ◌∙◌, append_assoc, arith}
+use Rattle.std.proofs.Common.{◌≡◌, ℕ, suc, ◌+◌, ◌-◌, ◌<◌, ◌≤◌, Bool, List, [], ◌∷◌, ◌++◌, Option, Some, None, refl, sym, ap, ◌∙◌, append_assoc, arith}
 use Rattle.read_token.specs.declared.lexeme.Flag.TheVariants.{Plain}
 use Rattle.read_token.specs.declared.lexeme.Lexeme.{Lexeme}
 use Rattle.read_line.specs.declared.attribute.Fields.{Fields}
@@ -59,30 +59,31 @@ module _ (n i : ℕ) (rest : List Lexeme) where
     unfolding definitions_at
     no_more_definitions all read = let none : n - i ≡ 0 = omega arith in sym read ∙ rw none refl
 
-  module _ (line : List ℕ) (found : List OperandForm) (whole : Option (List OperandForm × List Lexeme)) where
+  module _ (linked : Bool) (line : List ℕ) (found : List OperandForm) (whole : Option (List OperandForm × List Lexeme)) where
     -- no operand is there
-    pub no_operand : i < n → operand_at line rest ≡ None → behind found (operands_at line (n - i) rest) ≡ whole → whole ≡ None
+    pub no_operand : i < n → operand_at linked line rest ≡ None → behind found (operands_at linked line (n - i) rest) ≡ whole → whole ≡ None
     unfolding operands_at
     no_operand lt none read = sym read ∙ rw (one_left n i lt, none) refl
 
     -- an operand, and another one behind it
-    pub next_operand : (o : OperandForm) (left next : List Lexeme) (now : List OperandForm) → i < n → operand_at line rest ≡ Some (o, left)
-        → behind_operand left ≡ Some next → now ≡ found ++ o ∷ [] → behind found (operands_at line (n - i) rest) ≡ whole
-        → behind now (operands_at line (n - (i + 1)) next) ≡ whole
+    pub next_operand : (o : OperandForm) (left next : List Lexeme) (now : List OperandForm) → i < n → operand_at linked line rest ≡ Some (o, left)
+        → behind_operand left ≡ Some next → now ≡ found ++ o ∷ [] → behind found (operands_at linked line (n - i) rest) ≡ whole
+        → behind now (operands_at linked line (n - (i + 1)) next) ≡ whole
     unfolding operands_at
     next_operand o left next now lt some comma is read =
-        ap (λ (l : List OperandForm). behind l (operands_at line (n - (i + 1)) next)) is ∙ sym (behind-before found o (operands_at line (n - (i + 1)) next))
+        ap (λ (l : List OperandForm). behind l (operands_at linked line (n - (i + 1)) next)) is
+        ∙ sym (behind-before found o (operands_at linked line (n - (i + 1)) next))
         ∙ sym (rw (one_left n i lt, some, comma) refl) ∙ read
 
     -- the last operand
-    pub last_operand : (o : OperandForm) (left : List Lexeme) (now : List OperandForm) → i < n → operand_at line rest ≡ Some (o, left)
-        → behind_operand left ≡ None → now ≡ found ++ o ∷ [] → behind found (operands_at line (n - i) rest) ≡ whole → whole ≡ Some (now, left)
+    pub last_operand : (o : OperandForm) (left : List Lexeme) (now : List OperandForm) → i < n → operand_at linked line rest ≡ Some (o, left)
+        → behind_operand left ≡ None → now ≡ found ++ o ∷ [] → behind found (operands_at linked line (n - i) rest) ≡ whole → whole ≡ Some (now, left)
     unfolding operands_at
     last_operand o left now lt some comma is read =
         sym read ∙ rw (one_left n i lt, some, comma) refl ∙ sym (ap (λ (l : List OperandForm). Some (l, left)) is)
 
     -- as many were read as may be
-    pub no_more_operands : n ≤ i → behind found (operands_at line (n - i) rest) ≡ whole → whole ≡ None
+    pub no_more_operands : n ≤ i → behind found (operands_at linked line (n - i) rest) ≡ whole → whole ≡ None
     unfolding operands_at
     no_more_operands all read = let none : n - i ≡ 0 = omega arith in sym read ∙ rw none refl
 

@@ -1,5 +1,6 @@
 -- One line of a function's body, parsed.
-use Rattle.std.specs.Prelude.{◌≡◌, ℕ, Bool, true, false, ◌||◌, nat_eq, nat_lt, if◌then◌else◌, codes, drop, List, [], ◌∷◌, Option, Some, None, Result, Ok, Err}
+use Rattle.std.specs.Prelude.{◌≡◌, ℕ, Bool, true, false, ◌&&◌, ◌||◌, ◌==◌, min, nat_eq, nat_lt, if◌then◌else◌, codes, drop, length, List, [], ◌∷◌, Option}
+use Rattle.std.specs.Prelude.{Some, None, Result, Ok, Err}
 use Rattle.std.specs.List.{prefix_len, starts_with}
 use Rattle.read_lexer.specs.declared.fault.LexError.{LexError}
 use Rattle.read_lexer.specs.declared.fault.LexError.TheVariants as lex
@@ -13,7 +14,7 @@ use Rattle.read_token.specs.declared.lexeme.Lexeme.TheVariants as lexemes
 use Rattle.read_token.specs.Number.{BEYOND}
 use Rattle.read_token.specs.Sentence.{lexemes_of}
 use Rattle.read_line.specs.declared.form.BodyLine.{BodyLine}
-use Rattle.read_line.specs.declared.form.BodyLine.TheVariants.{Passed, Label, Item}
+use Rattle.read_line.specs.declared.form.BodyLine.TheVariants.{Passed, Closed, Label, Item}
 use Rattle.read_line.specs.declared.form.ItemForm.{ItemForm}
 use Rattle.read_line.specs.declared.form.FormError.{FormError}
 use Rattle.read_line.specs.declared.form.FormError.TheVariants.{BadByte, UnclosedString, BadLine, Memory}
@@ -23,6 +24,23 @@ use Rattle.read_line.specs.Item.{item_of}
 -- a line without the spaces and tabs at its front
 abbrev pub behind_blanks : List ℕ → List ℕ
 behind_blanks text = drop (prefix_len is_blank text) text
+
+-- whether nothing stands on a line, or a comment
+abbrev pub is_nothing : List ℕ → Bool
+is_nothing [] = true
+is_nothing (b ∷ bs) = b == 59
+
+-- a line that lists successors, from the text behind the blanks at its front: what stands behind the colon
+abbrev pub behind_successors : List ℕ → List ℕ
+behind_successors text = behind_blanks (drop (min 11 (length text)) text)
+
+-- whether a line lists successors, but none (LLVM, Machine IR (MIR) Format Reference Manual, "Block References": a block that control doesn't leave)
+unfoldable pub closes_block : List ℕ → Bool
+closes_block text = starts_with nat_eq (behind_blanks text) (codes "successors:") && is_nothing (behind_successors (behind_blanks text))
+
+-- a line that lists something; that a block has no successors is said in the linked language alone
+abbrev pub listing_of : (linked : Bool) → List ℕ → BodyLine
+listing_of linked text = if linked && closes_block text then Closed else Passed
 
 -- whether a line lists successors or live-in registers, whatever follows
 unfoldable pub is_listing : List ℕ → Bool
@@ -52,22 +70,22 @@ as_item None = Err BadLine
 as_item (Some item) = Ok (Item item)
 
 -- The parsed line of these lexemes. `bb.N` and a bracket or a colon begin a label.
-unfoldable pub sentence_of : List ℕ → List Lexeme → Result BodyLine FormError
-sentence_of line [] = Ok Passed
-sentence_of line (lexemes.Word (words.Block n) t ∷ lexemes.Colon ∷ ts) = labelled n (Some (lexemes.Colon ∷ ts))
-sentence_of line (lexemes.Word (words.Block n) t ∷ lexemes.Open ∷ ts) = labelled n (behind_bracket 0 ts)
-sentence_of line ts = as_item (item_of line ts)
+unfoldable pub sentence_of : (linked : Bool) → List ℕ → List Lexeme → Result BodyLine FormError
+sentence_of linked line [] = Ok Passed
+sentence_of linked line (lexemes.Word (words.Block n) t ∷ lexemes.Colon ∷ ts) = labelled n (Some (lexemes.Colon ∷ ts))
+sentence_of linked line (lexemes.Word (words.Block n) t ∷ lexemes.Open ∷ ts) = labelled n (behind_bracket 0 ts)
+sentence_of linked line ts = as_item (item_of linked line ts)
 
 -- the parsed line of these tokens, or the lexical fault
-abbrev pub line_of_tokens : List ℕ → Result (List Token) LexError → Result BodyLine FormError
-line_of_tokens line (Ok ts) = sentence_of line (lexemes_of line ts)
-line_of_tokens line (Err (lex.BadByte at)) = Err BadByte
-line_of_tokens line (Err (lex.UnclosedString at)) = Err UnclosedString
-line_of_tokens line (Err lex.Memory) = Err Memory
+abbrev pub line_of_tokens : (linked : Bool) → List ℕ → Result (List Token) LexError → Result BodyLine FormError
+line_of_tokens linked line (Ok ts) = sentence_of linked line (lexemes_of line ts)
+line_of_tokens linked line (Err (lex.BadByte at)) = Err BadByte
+line_of_tokens linked line (Err (lex.UnclosedString at)) = Err UnclosedString
+line_of_tokens linked line (Err lex.Memory) = Err Memory
 
--- A line of a function's body, parsed, or why it has no form.
-unfoldable pub body_line_of : List ℕ → Result BodyLine FormError
-body_line_of text = if is_listing text then Ok Passed else line_of_tokens (code_of text) (tokens_of (code_of text))
+-- A line of a function's body, parsed, or why it has no form; `linked` is whether the forms of the linked language are read.
+unfoldable pub body_line_of : (linked : Bool) → List ℕ → Result BodyLine FormError
+body_line_of linked text = if is_listing text then Ok (listing_of linked text) else line_of_tokens linked (code_of text) (tokens_of (code_of text))
 
 -- What a call returns is this result, unless memory ran out.
 abbrev pub Says : Result BodyLine FormError → Result BodyLine FormError → Type 0

@@ -9,6 +9,8 @@ use Rattle.read_token.specs.declared.lexeme.Number.TheVariants.{Wide}
 use Rattle.read_token.specs.declared.lexeme.Lexeme.{Lexeme}
 use Rattle.read_token.specs.declared.lexeme.Lexeme.TheVariants.{Integer}
 use Rattle.read_token.specs.Number.{BEYOND}
+use Rattle.rv64_instr.specs.declared.symbol.Symbol.{Symbol}
+use Rattle.rv64_instr.specs.declared.symbol.Symbol.TheVariants.{Global, Constant}
 use Rattle.read_line.specs.declared.form.RegisterForm.{RegisterForm}
 use Rattle.read_line.specs.declared.form.OperandForm.{OperandForm}
 use Rattle.read_line.specs.declared.form.OperandForm.TheVariants as operands
@@ -32,11 +34,19 @@ name_exceeds name = false
 abbrev pub register_exceeds : RegisterForm → Bool
 register_exceeds r = name_exceeds r.name
 
+-- whether the number of a constant of the pool is above 2^30 - 1
+abbrev pub symbol_exceeds : Symbol → Bool
+symbol_exceeds (Global name) = false
+symbol_exceeds (Constant n) = is_beyond n
+
 -- whether a number in an operand is above 2^30 - 1. Integer operands have no such limit
 abbrev pub operand_exceeds : OperandForm → Bool
 operand_exceeds (operands.Register r) = register_exceeds r
 operand_exceeds (operands.Slot n) = is_beyond n
 operand_exceeds (operands.Block n) = is_beyond n
+operand_exceeds (operands.Part half a) = symbol_exceeds a.symbol
+operand_exceeds (operands.Address a) = symbol_exceeds a.symbol
+operand_exceeds (operands.Fixed n) = is_beyond n
 operand_exceeds (operands.Node n) = is_beyond n
 operand_exceeds (operands.Reference p) = is_beyond p.number || is_beyond p.operand
 operand_exceeds operand = false

@@ -59,6 +59,16 @@ unfoldable pub behind_words : List Lexeme → List Lexeme
 behind_words (lexemes.Word w t ∷ ts) = if is_lower w then behind_words ts else lexemes.Word w t ∷ ts
 behind_words ts = ts
 
+-- the word `noreturn`
+abbrev pub is_no_return : Word → Bool
+is_no_return words.NoReturn = true
+is_no_return word = false
+
+-- whether `noreturn` is one of the words that are skipped
+unfoldable pub says_no_return : List Lexeme → Bool
+says_no_return (lexemes.Word w t ∷ ts) = if is_lower w then (if is_no_return w then true else says_no_return ts) else false
+says_no_return ts = false
+
 -- an opcode, a word that begins with an upper-case letter, and the rest
 abbrev pub opcode_at : List Lexeme → Option (Token × List Lexeme)
 opcode_at (lexemes.Word w t ∷ ts) = if is_upper w then Some (t, ts) else None
@@ -70,11 +80,11 @@ behind_operand (lexemes.Comma ∷ ts) = if begins_attribute ts then None else So
 behind_operand ts = None
 
 -- Operands separated by commas, at most `n`, and the rest.
-unfoldable pub operands_at : List ℕ → ℕ → List Lexeme → Option (List OperandForm × List Lexeme)
-operands_at line zero ts = None
-operands_at line (suc n) ts = do
-  o ← operand_at line ts
-  case_of (behind_operand o.1) (λ rest. before o.0 (operands_at line n rest)) (Some (o.0 ∷ [], o.1))
+unfoldable pub operands_at : (linked : Bool) → List ℕ → ℕ → List Lexeme → Option (List OperandForm × List Lexeme)
+operands_at linked line zero ts = None
+operands_at linked line (suc n) ts = do
+  o ← operand_at linked line ts
+  case_of (behind_operand o.1) (λ rest. before o.0 (operands_at linked line n rest)) (Some (o.0 ∷ [], o.1))
 
 -- whether an operand has to follow the opcode
 abbrev pub begins_operand : List Lexeme → Bool
@@ -85,32 +95,33 @@ begins_operand (lexemes.Word words.Location t ∷ ts) = false
 begins_operand ts = true
 
 -- operands, or none, and the rest
-abbrev pub operands_of : List ℕ → List Lexeme → Option (List OperandForm × List Lexeme)
-operands_of line ts = if begins_operand ts then operands_at line (length ts) ts else Some ([], ts)
+abbrev pub operands_of : (linked : Bool) → List ℕ → List Lexeme → Option (List OperandForm × List Lexeme)
+operands_of linked line ts = if begins_operand ts then operands_at linked line (length ts) ts else Some ([], ts)
 
 -- the attributes, or none, where `tail` are the lexemes after the opcode and `rest` those after the operands
 abbrev pub attributes_of_item : List Lexeme → List Lexeme → Option Attributes
 attributes_of_item tail rest = if begins_operand tail then attributes_behind rest else attributes_alone tail
 
 -- the form of an item with these parts
-abbrev pub item_with : List Lexeme → List RegisterForm → List ℕ → List OperandForm → Attributes → ItemForm
-item_with ts definitions opcode operands attributes = record {
+abbrev pub item_with : List Lexeme → List RegisterForm → List ℕ → List OperandForm → (no_return : Bool) → Attributes → ItemForm
+item_with ts definitions opcode operands no_return attributes = record {
   definitions = definitions;
   opcode = opcode;
   operands = operands;
+  no_return = no_return;
   number = attributes.number;
   loc = attributes.loc;
   exceeds = item_exceeds ts definitions operands attributes;
 }
 
 -- the item of a line with these definitions, where `rest` are the lexemes after them
-unfoldable pub defined_item : List ℕ → List Lexeme → List RegisterForm → List Lexeme → Option ItemForm
-defined_item line ts definitions rest = do
+unfoldable pub defined_item : (linked : Bool) → List ℕ → List Lexeme → List RegisterForm → List Lexeme → Option ItemForm
+defined_item linked line ts definitions rest = do
   opcode ← opcode_at (behind_words rest)
-  operands ← operands_of line opcode.1
+  operands ← operands_of linked line opcode.1
   attributes ← attributes_of_item opcode.1 operands.1
-  Some (item_with ts definitions (text_of line opcode.0) operands.0 attributes)
+  Some (item_with ts definitions (text_of line opcode.0) operands.0 (says_no_return rest) attributes)
 
 -- the item in the lexemes of a line
-unfoldable pub item_of : List ℕ → List Lexeme → Option ItemForm
-item_of line ts = definitions_of ts >>= λ definitions. defined_item line ts definitions.0 definitions.1
+unfoldable pub item_of : (linked : Bool) → List ℕ → List Lexeme → Option ItemForm
+item_of linked line ts = definitions_of ts >>= λ definitions. defined_item linked line ts definitions.0 definitions.1

@@ -1,6 +1,7 @@
 pub mod Read
 pub mod Bracket
 pub mod Register
+pub mod Address
 pub mod Operand
 pub mod Attribute
 pub mod Item

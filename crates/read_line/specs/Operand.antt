@@ -1,5 +1,6 @@
 -- One operand, parsed. (LLVM, Machine IR (MIR) Format Reference Manual, "Machine Operands"; LLVM Language Reference, "DIExpression".)
 use Rattle.std.specs.Prelude.{ℕ, ℤ, pos, ◌+◌, ◌/◌, ◌%◌, Bool, false, ◌&&◌, ◌==◌, nat_le, if◌then◌else◌, List, ◌∷◌, Option, Some, None}
+use Rattle.rv64_instr.specs.declared.symbol.Half.{Half}
 use Rattle.mir_func.specs.Limits.{MAX_PART, MAX_PART_END}
 use Rattle.mir_func.specs.Parts.{Bytes}
 use Rattle.read_token.specs.declared.lexeme.Flag.TheVariants.{Plain}
@@ -16,6 +17,7 @@ use Rattle.read_line.specs.declared.form.Expression.TheVariants as expressions
 use Rattle.read_line.specs.declared.form.OperandForm.{OperandForm}
 use Rattle.read_line.specs.declared.form.OperandForm.TheVariants as operands
 use Rattle.read_line.specs.Read.{◌>>=◌}
+use Rattle.read_line.specs.Address.{address_at, half_of}
 use Rattle.read_line.specs.Bracket.{behind_bracket}
 use Rattle.read_line.specs.Register.{register_at}
 
@@ -92,10 +94,14 @@ abbrev pub symbol_at : List ℕ → List Lexeme → Option (OperandForm × List 
 symbol_at line (lexemes.Symbol t ∷ ts) = Some (operands.Symbol (symbol_name line t), ts)
 symbol_at line ts = None
 
--- a symbol operand after `target-flags(..)`, which is skipped, and the rest
-abbrev pub flagged_symbol_at : List ℕ → List Lexeme → Option (OperandForm × List Lexeme)
-flagged_symbol_at line (lexemes.Open ∷ ts) = behind_bracket 0 ts >>= symbol_at line
-flagged_symbol_at line ts = None
+-- an operand of a symbol, and the rest. The linked language alone has numbers behind symbols, constants of the pool and halves
+abbrev pub symbol_by : (linked : Bool) → List ℕ → Option Half → List Lexeme → Option (OperandForm × List Lexeme)
+symbol_by linked line half ts = if linked then address_at line half ts else symbol_at line ts
+
+-- a symbol operand after `target-flags(..)`, whose other flags are skipped, and the rest
+abbrev pub flagged_symbol_at : (linked : Bool) → List ℕ → List Lexeme → Option (OperandForm × List Lexeme)
+flagged_symbol_at linked line (lexemes.Open ∷ ts) = behind_bracket 0 ts >>= symbol_by linked line (half_of ts)
+flagged_symbol_at linked line ts = None
 
 -- the operand `dbg-instr-ref(K, O)`, from the lexemes after its word, and the rest
 abbrev pub reference_at : List Lexeme → Option (OperandForm × List Lexeme)
@@ -108,28 +114,45 @@ abbrev pub mask_at : List Lexeme → Option (OperandForm × List Lexeme)
 mask_at (lexemes.Open ∷ ts) = behind_bracket 0 ts >>= λ rest. Some (operands.Mask, rest)
 mask_at ts = Some (operands.Mask, ts)
 
+-- a literal behind its type's name, which code doesn't have, or a register mask, from the lexemes after that name, and the rest
+abbrev pub literal_at : List Lexeme → Option (OperandForm × List Lexeme)
+literal_at (lexemes.Integer n ∷ ts) = Some (operands.Literal, ts)
+literal_at (lexemes.Word w t ∷ ts) = Some (operands.Literal, ts)
+literal_at ts = mask_at ts
+
+-- an operand that begins with a type's name, from the lexemes after it, and the rest. The linked language alone has literals
+abbrev pub typed_at : (linked : Bool) → List Lexeme → Option (OperandForm × List Lexeme)
+typed_at linked ts = if linked then literal_at ts else mask_at ts
+
+-- a fixed stack object, and the rest. The linked language alone has them
+abbrev pub fixed_at : (linked : Bool) → ℕ → List Lexeme → Option (OperandForm × List Lexeme)
+fixed_at linked n ts = if linked then Some (operands.Fixed n, ts) else None
+
 -- a register operand, and the rest
 abbrev pub register_operand_at : List Lexeme → Option (OperandForm × List Lexeme)
 register_operand_at ts = register_at Plain ts >>= λ r. Some (operands.Register r.0, r.1)
 
 -- An operand that begins with a word, from the lexemes after it, and the rest. Attributes and register flags begin none here.
-unfoldable pub word_operand_at : List ℕ → Word → List Lexeme → Option (OperandForm × List Lexeme)
-word_operand_at line (words.Flag f) ts = None
-word_operand_at line words.InstrNumber ts = None
-word_operand_at line words.Location ts = None
-word_operand_at line words.TargetFlags ts = flagged_symbol_at line ts
-word_operand_at line words.InstrRef ts = reference_at ts
-word_operand_at line word ts = mask_at ts
+unfoldable pub word_operand_at : (linked : Bool) → List ℕ → Word → List Lexeme → Option (OperandForm × List Lexeme)
+word_operand_at linked line (words.Flag f) ts = None
+word_operand_at linked line words.InstrNumber ts = None
+word_operand_at linked line words.Location ts = None
+word_operand_at linked line words.TargetFlags ts = flagged_symbol_at linked line ts
+word_operand_at linked line words.InstrRef ts = reference_at ts
+word_operand_at linked line words.TypeName ts = typed_at linked ts
+word_operand_at linked line word ts = mask_at ts
 
--- an operand, and the rest
-unfoldable pub operand_at : List ℕ → List Lexeme → Option (OperandForm × List Lexeme)
-operand_at line (lexemes.Word (words.Flag f) t ∷ ts) = register_operand_at (lexemes.Word (words.Flag f) t ∷ ts)
-operand_at line (lexemes.Word w t ∷ ts) = word_operand_at line w ts
-operand_at line (lexemes.Register name ∷ ts) = register_operand_at (lexemes.Register name ∷ ts)
-operand_at line (lexemes.Slot n ∷ ts) = Some (operands.Slot n, ts)
-operand_at line (lexemes.Block n ∷ ts) = Some (operands.Block n, ts)
-operand_at line (lexemes.Node n ∷ ts) = Some (operands.Node n, ts)
-operand_at line (lexemes.Expression ∷ lexemes.Open ∷ ts) = expression_at ts
-operand_at line (lexemes.Integer n ∷ ts) = Some (operands.Integer (fitting n), ts)
-operand_at line (lexemes.Symbol t ∷ ts) = symbol_at line (lexemes.Symbol t ∷ ts)
-operand_at line ts = None
+-- an operand, and the rest; `linked` is whether those of the linked language are read
+unfoldable pub operand_at : (linked : Bool) → List ℕ → List Lexeme → Option (OperandForm × List Lexeme)
+operand_at linked line (lexemes.Word (words.Flag f) t ∷ ts) = register_operand_at (lexemes.Word (words.Flag f) t ∷ ts)
+operand_at linked line (lexemes.Word w t ∷ ts) = word_operand_at linked line w ts
+operand_at linked line (lexemes.Register name ∷ ts) = register_operand_at (lexemes.Register name ∷ ts)
+operand_at linked line (lexemes.Slot n ∷ ts) = Some (operands.Slot n, ts)
+operand_at linked line (lexemes.Block n ∷ ts) = Some (operands.Block n, ts)
+operand_at linked line (lexemes.Fixed n ∷ ts) = fixed_at linked n ts
+operand_at linked line (lexemes.Constant n ∷ ts) = symbol_by linked line None (lexemes.Constant n ∷ ts)
+operand_at linked line (lexemes.Node n ∷ ts) = Some (operands.Node n, ts)
+operand_at linked line (lexemes.Expression ∷ lexemes.Open ∷ ts) = expression_at ts
+operand_at linked line (lexemes.Integer n ∷ ts) = Some (operands.Integer (fitting n), ts)
+operand_at linked line (lexemes.Symbol t ∷ ts) = symbol_by linked line None (lexemes.Symbol t ∷ ts)
+operand_at linked line ts = None

@@ -1,10 +1,14 @@
 //! One line of a function's body, parsed.
 
-ghost use Rattle.std.specs.Prelude.{◌≡◌, ◌≤◌, length};
+ghost use Rattle.std.specs.Prelude.{◌≡◌, ◌≤◌, ◌&&◌, length};
 ghost use Rattle.std.specs.List.{prefix_len};
 ghost use Rattle.read_lexer.specs.Bytes.{is_blank};
 ghost use Rattle.read_line.specs.Body.{
   behind_blanks,
+  is_nothing,
+  behind_successors,
+  closes_block,
+  listing_of,
   is_listing,
   code_of,
   label_of,
@@ -43,6 +47,41 @@ fn behind_blanks(text: &[u8]) -> &[u8]
     &text[blanks(text)..]
 }
 
+/// Whether nothing stands on a line, or a comment.
+fn is_nothing(text: &[u8]) -> bool
+    ensures { result ≡ is_nothing text.now }
+{
+    matches!(text, [] | [b';', ..])
+}
+
+/// What stands behind the colon of a line that lists successors.
+fn behind_successors(text: &[u8]) -> &[u8]
+    ensures { result.now ≡ behind_successors text.now }
+{
+    let start = 11_usize.min(text.len());
+    behind_blanks(&text[start..])
+}
+
+/// Whether a line lists successors, but none.
+#[tactic(auto, unfolding(crate::specs::Body::closes_block))]
+fn closes_block(text: &[u8]) -> bool
+    ensures { result ≡ closes_block text.now }
+{
+    let line = behind_blanks(text);
+    line.starts_with(b"successors:") && is_nothing(behind_successors(line))
+}
+
+/// A line that lists something.
+fn listing(linked: bool, text: &[u8]) -> BodyLine
+    ensures { result ≡ listing_of linked text.now }
+{
+    if linked && closes_block(text) {
+        BodyLine::Closed
+    } else {
+        BodyLine::Passed
+    }
+}
+
 /// Whether a line lists successors or live-in registers.
 #[tactic(auto, unfolding(crate::specs::Body::is_listing))]
 fn is_listing(text: &[u8]) -> bool
@@ -75,8 +114,13 @@ fn labelled(block: BlockId, rest: &[Lexeme]) -> Result<BodyLine, FormError>
 
 /// The parsed line of these lexemes.
 #[tactic(auto, unfolding(crate::specs::Body::sentence_of))]
-fn sentence(alloc: Global, line: &[u8], lexemes: &[Lexeme]) -> Result<BodyLine, FormError>
-    ensures { Says result (sentence_of line.now lexemes.now) }
+fn sentence(
+    alloc: Global,
+    linked: bool,
+    line: &[u8],
+    lexemes: &[Lexeme],
+) -> Result<BodyLine, FormError>
+    ensures { Says result (sentence_of linked line.now lexemes.now) }
 {
     match lexemes {
         [] => Ok(BodyLine::Passed),
@@ -89,27 +133,27 @@ fn sentence(alloc: Global, line: &[u8], lexemes: &[Lexeme]) -> Result<BodyLine, 
             Some(behind) => labelled(*block, behind),
             None => Err(FormError::BadLine),
         },
-        _ => match item(alloc, line, lexemes)? {
+        _ => match item(alloc, linked, line, lexemes)? {
             Some(item) => Ok(BodyLine::Item(item)),
             None => Err(FormError::BadLine),
         },
     }
 }
 
-/// A line of a function's body, parsed. The errors are `BadByte` and `UnclosedString` for a lexical fault, `BadLine`
-/// for lexemes that are no line, and `Memory`.
+/// A line of a function's body, parsed; `linked` is whether the forms of the linked language are read. The errors are
+/// `BadByte` and `UnclosedString` for a lexical fault, `BadLine` for lexemes that are no line, and `Memory`.
 #[tactic(auto, unfolding(crate::specs::Body::body_line_of))]
-pub fn body_line(alloc: Global, text: &[u8]) -> Result<BodyLine, FormError>
-    ensures { Says result (body_line_of text.now) }
+pub fn body_line(alloc: Global, linked: bool, text: &[u8]) -> Result<BodyLine, FormError>
+    ensures { Says result (body_line_of linked text.now) }
 {
     if is_listing(text) {
-        return Ok(BodyLine::Passed);
+        return Ok(listing(linked, text));
     }
     let line = before_memory_operands(before_comment(text));
     match tokens(alloc, line) {
         Ok(tokens) => {
             let lexemes = lexemes(alloc, line, tokens.as_slice())?;
-            sentence(alloc, line, lexemes.as_slice())
+            sentence(alloc, linked, line, lexemes.as_slice())
         }
         Err(LexError::BadByte(_)) => Err(FormError::BadByte),
         Err(LexError::UnclosedString(_)) => Err(FormError::UnclosedString),

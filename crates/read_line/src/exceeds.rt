@@ -7,6 +7,7 @@ ghost use Rattle.read_line.specs.Exceeds.{
   is_some_beyond,
   name_exceeds,
   register_exceeds,
+  symbol_exceeds,
   operand_exceeds,
   loc_exceeds,
   attributes_exceed,
@@ -19,6 +20,7 @@ use crate::form::{Definitions, OperandForm, OperandForms, RegisterForm};
 use base_ids::metadata::NodeId;
 use mir_func::location::Loc;
 use read_token::lexeme::{BEYOND, Lexeme, Number, RegisterName};
+use rv64_instr::symbol::Symbol;
 
 /// Whether a number is above 2^30 - 1.
 fn is_beyond(n: u32) -> bool
@@ -45,6 +47,15 @@ fn register_exceeds(register: RegisterForm) -> bool
     }
 }
 
+fn symbol_exceeds(symbol: &Symbol) -> bool
+    ensures { result ≡ symbol_exceeds symbol.now }
+{
+    match symbol {
+        Symbol::Constant(n) => is_beyond(*n),
+        Symbol::Global(_) => false,
+    }
+}
+
 fn operand_exceeds(operand: &OperandForm) -> bool
     ensures { result ≡ operand_exceeds operand.now }
 {
@@ -52,12 +63,17 @@ fn operand_exceeds(operand: &OperandForm) -> bool
         OperandForm::Register(register) => register_exceeds(*register),
         OperandForm::Slot(n) => is_beyond(n.number()),
         OperandForm::Block(n) => is_beyond(n.number()),
+        OperandForm::Part(_, address) | OperandForm::Address(address) => {
+            symbol_exceeds(&address.symbol)
+        }
+        OperandForm::Fixed(n) => is_beyond(*n),
         OperandForm::Node(n) => is_beyond(n.number()),
         OperandForm::Reference(pair) => {
             is_beyond(pair.number.number()) || is_beyond(pair.operand.number())
         }
         OperandForm::Integer(_)
         | OperandForm::Symbol(_)
+        | OperandForm::Literal
         | OperandForm::Mask
         | OperandForm::Expression(_) => false,
     }

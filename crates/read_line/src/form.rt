@@ -8,6 +8,7 @@ use mir_func::location::Loc;
 use mir_func::variable::Fragment;
 use read_token::lexeme::{Flag, RegisterName};
 use rv64_instr::name::Name;
+use rv64_instr::symbol::{Half, Symbol};
 use std::alloc::AllocError;
 use thiserror::Error;
 
@@ -39,6 +40,15 @@ pub enum Expression {
     Other,
 }
 
+/// The address of a symbol plus a number of bytes.
+#[derive(Debug, Drop)]
+pub struct AddressForm {
+    /// The symbol. The number of a constant above the limit is `BEYOND`.
+    pub symbol: Symbol,
+    /// What is added, and `None` for a number that doesn't fit 32 bits signed.
+    pub addend: Option<i32>,
+}
+
 /// An operand.
 #[derive(Debug, Drop)]
 pub enum OperandForm {
@@ -52,6 +62,15 @@ pub enum OperandForm {
     Block(BlockId),
     /// A symbol, by its name with escapes replaced by their bytes.
     Symbol(Name),
+    /// A half of an address: a symbol behind `target-flags(riscv-hi)` or `target-flags(riscv-lo)`.
+    Part(Half, AddressForm),
+    /// A symbol with a number behind it, or a constant of the function's constant pool, without a half: debug values
+    /// alone have it.
+    Address(AddressForm),
+    /// `%fixed-stack.N`.
+    Fixed(u32),
+    /// A literal behind the name of its type: debug values alone have it.
+    Literal,
     /// A register mask.
     Mask,
     /// `!N`.
@@ -74,6 +93,8 @@ pub struct ItemForm {
     pub opcode: Name,
     /// The operands after it.
     pub operands: OperandForms,
+    /// Whether the word `noreturn` stands before the opcode.
+    pub no_return: bool,
     /// The number after `debug-instr-number`.
     pub number: Option<DebugNumber>,
     /// The location after `debug-location`.
@@ -88,6 +109,8 @@ pub struct ItemForm {
 pub enum BodyLine {
     /// Nothing: it is empty, or lists successors or live-in registers.
     Passed,
+    /// In the linked language a line that lists no successors: control doesn't go on behind its block.
+    Closed,
     /// The label of a block, and `None` for one whose number is above 2^30 - 1.
     Label(Option<BlockId>),
     /// An item.

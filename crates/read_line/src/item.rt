@@ -9,6 +9,8 @@ ghost use Rattle.read_line.specs.Item.{
   is_upper,
   is_lower,
   behind_words,
+  is_no_return,
+  says_no_return,
   opcode_at,
   behind_operand,
   operands_at,
@@ -109,6 +111,30 @@ fn behind_words(lexemes: &[Lexeme]) -> &[Lexeme]
     rest
 }
 
+fn is_no_return(word: Word) -> bool
+    ensures { result ≡ is_no_return word }
+{
+    matches!(word, Word::NoReturn)
+}
+
+/// Whether `noreturn` is one of the words that are skipped.
+#[tactic(auto, unfolding(crate::specs::Item::says_no_return))]
+fn says_no_return(lexemes: &[Lexeme]) -> bool
+    ensures { result ≡ says_no_return lexemes.now }
+{
+    let mut rest = lexemes;
+    while let [Lexeme::Word(word, _), behind @ ..] = rest {
+        if !is_lower(*word) {
+            return false;
+        }
+        if is_no_return(*word) {
+            return true;
+        }
+        rest = behind;
+    }
+    false
+}
+
 /// An opcode, and the rest.
 fn opcode(lexemes: &[Lexeme]) -> Option<(Token, &[Lexeme])>
     ensures { Gives (λ x. (x.0, x.1.now)) result (opcode_at lexemes.now) }
@@ -132,16 +158,17 @@ fn behind_operand(lexemes: &[Lexeme]) -> Option<&[Lexeme]>
 /// One or more operands, and the rest.
 fn some_operands<'a>(
     alloc: Global,
+    linked: bool,
     line: &[u8],
     lexemes: &'a [Lexeme],
 ) -> Result<Option<(OperandForms, &'a [Lexeme])>, AllocError>
     ensures { IfOk result (λ read.
-        Gives (λ x. (x.0, x.1.now)) read (operands_at line.now (length lexemes.now) lexemes.now)) }
+        Gives (λ x. (x.0, x.1.now)) read (operands_at linked line.now (length lexemes.now) lexemes.now)) }
 {
     let mut found = List::new(alloc);
     let mut rest = lexemes;
     for _ in 0..lexemes.len() {
-        match operand(alloc, line, rest) {
+        match operand(alloc, linked, line, rest) {
             Ok(Some((operand, behind))) => {
                 found.push(operand)?;
                 match behind_operand(behind) {
@@ -169,13 +196,14 @@ fn begins_operand(lexemes: &[Lexeme]) -> bool
 /// Operands, or none, and the rest.
 fn operands<'a>(
     alloc: Global,
+    linked: bool,
     line: &[u8],
     lexemes: &'a [Lexeme],
 ) -> Result<Option<(OperandForms, &'a [Lexeme])>, AllocError>
-    ensures { IfOk result (λ read. Gives (λ x. (x.0, x.1.now)) read (operands_of line.now lexemes.now)) }
+    ensures { IfOk result (λ read. Gives (λ x. (x.0, x.1.now)) read (operands_of linked line.now lexemes.now)) }
 {
     if begins_operand(lexemes) {
-        some_operands(alloc, line, lexemes)
+        some_operands(alloc, linked, line, lexemes)
     } else {
         Ok(Some((List::new(alloc), lexemes)))
     }
@@ -196,23 +224,25 @@ fn item_attributes(tail: &[Lexeme], rest: &[Lexeme]) -> Option<Attributes>
 #[tactic(auto, unfolding(crate::specs::Item::defined_item))]
 fn defined_item(
     alloc: Global,
+    linked: bool,
     line: &[u8],
     lexemes: &[Lexeme],
     definitions: Definitions,
     rest: &[Lexeme],
 ) -> Result<Option<ItemForm>, AllocError>
-    ensures { IfOk result (λ item. item ≡ defined_item line.now lexemes.now definitions rest.now) }
+    ensures { IfOk result (λ item. item ≡ defined_item linked line.now lexemes.now definitions rest.now) }
 {
     let Some((opcode, tail)) = opcode(behind_words(rest)) else {
         return Ok(None);
     };
-    match operands(alloc, line, tail) {
+    let no_return = says_no_return(rest);
+    match operands(alloc, linked, line, tail) {
         Ok(Some((operands, behind))) => {
             let Some(attributes) = item_attributes(tail, behind) else {
                 return Ok(None);
             };
             let name = List::from_slice(alloc, text_of(line, opcode))?;
-            Ok(Some(item_with(lexemes, definitions, name, operands, attributes)))
+            Ok(Some(item_with(lexemes, definitions, name, operands, no_return, attributes)))
         }
         Ok(None) => Ok(None),
         Err(e) => Err(e),
@@ -225,9 +255,10 @@ fn item_with(
     definitions: Definitions,
     opcode: Name,
     operands: OperandForms,
+    no_return: bool,
     attributes: Attributes,
 ) -> ItemForm
-    ensures { result ≡ item_with lexemes.now definitions opcode operands attributes }
+    ensures { result ≡ item_with lexemes.now definitions opcode operands no_return attributes }
 {
     let Attributes { number, loc } = attributes;
     let exceeds = item_exceeds(lexemes, &definitions, &operands, attributes);
@@ -235,19 +266,27 @@ fn item_with(
         definitions,
         opcode,
         operands,
+        no_return,
         number,
         loc,
         exceeds,
     }
 }
 
-/// The item in the lexemes of a line.
+/// The item in the lexemes of a line; `linked` is whether the operands of the linked language are read.
 #[tactic(auto, unfolding(crate::specs::Item::item_of))]
-pub fn item(alloc: Global, line: &[u8], lexemes: &[Lexeme]) -> Result<Option<ItemForm>, AllocError>
-    ensures { IfOk result (λ item. item ≡ item_of line.now lexemes.now) }
+pub fn item(
+    alloc: Global,
+    linked: bool,
+    line: &[u8],
+    lexemes: &[Lexeme],
+) -> Result<Option<ItemForm>, AllocError>
+    ensures { IfOk result (λ item. item ≡ item_of linked line.now lexemes.now) }
 {
     match definitions(alloc, lexemes) {
-        Ok(Some((definitions, rest))) => defined_item(alloc, line, lexemes, definitions, rest),
+        Ok(Some((definitions, rest))) => {
+            defined_item(alloc, linked, line, lexemes, definitions, rest)
+        }
         Ok(None) => Ok(None),
         Err(e) => Err(e),
     }

@@ -6,6 +6,7 @@
 //! exist, isn't checked here. (LLVM, Machine IR (MIR) Format Reference Manual, "Machine Instructions".)
 #![tactic(auto)]
 
+mod address;
 mod attribute;
 pub mod body;
 mod exceeds;

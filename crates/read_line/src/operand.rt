@@ -14,14 +14,19 @@ ghost use Rattle.read_line.specs.Operand.{
   expression_of,
   expression_at,
   symbol_at,
+  symbol_by,
   flagged_symbol_at,
   reference_at,
   mask_at,
+  literal_at,
+  typed_at,
+  fixed_at,
   register_operand_at,
   word_operand_at,
   operand_at,
 };
 
+use crate::address::{address, half};
 use crate::form::{Expression, OperandForm};
 use crate::front::behind_bracket;
 use crate::register::register;
@@ -30,6 +35,7 @@ use mir_func::debug_substitution::OperandPair;
 use mir_func::variable::Fragment;
 use read_token::lexeme::{BEYOND, Lexeme, Number, Word};
 use read_token::symbol::symbol_name;
+use rv64_instr::symbol::Half;
 use std::alloc::{AllocError, Global};
 
 /// An integer that is a number or count; `BEYOND` if it is negative or above the limit.
@@ -167,17 +173,37 @@ fn symbol<'a>(
     }
 }
 
+/// An operand of a symbol, and the rest. The linked language alone has numbers behind symbols, constants of the pool
+/// and halves.
+fn symbol_by<'a>(
+    alloc: Global,
+    linked: bool,
+    line: &[u8],
+    half: Option<Half>,
+    lexemes: &'a [Lexeme],
+) -> Result<Option<(OperandForm, &'a [Lexeme])>, AllocError>
+    ensures { IfOk result (λ read.
+        Gives (λ x. (x.0, x.1.now)) read (symbol_by linked line.now half lexemes.now)) }
+{
+    if linked {
+        address(alloc, line, half, lexemes)
+    } else {
+        symbol(alloc, line, lexemes)
+    }
+}
+
 /// A symbol operand after `target-flags(..)`, from the lexemes after that word, and the rest.
 fn flagged_symbol<'a>(
     alloc: Global,
+    linked: bool,
     line: &[u8],
     lexemes: &'a [Lexeme],
 ) -> Result<Option<(OperandForm, &'a [Lexeme])>, AllocError>
-    ensures { IfOk result (λ read. Gives (λ x. (x.0, x.1.now)) read (flagged_symbol_at line.now lexemes.now)) }
+    ensures { IfOk result (λ read. Gives (λ x. (x.0, x.1.now)) read (flagged_symbol_at linked line.now lexemes.now)) }
 {
     match lexemes {
         [Lexeme::Open, rest @ ..] => match behind_bracket(rest) {
-            Some(behind) => symbol(alloc, line, behind),
+            Some(behind) => symbol_by(alloc, linked, line, half(rest), behind),
             None => Ok(None),
         },
         _ => Ok(None),
@@ -217,6 +243,38 @@ fn mask(lexemes: &[Lexeme]) -> Option<(OperandForm, &[Lexeme])>
     }
 }
 
+/// A literal behind its type's name, or a register mask, from the lexemes after that name, and the rest.
+fn literal(lexemes: &[Lexeme]) -> Option<(OperandForm, &[Lexeme])>
+    ensures { Gives (λ x. (x.0, x.1.now)) result (literal_at lexemes.now) }
+{
+    match lexemes {
+        [Lexeme::Integer(_) | Lexeme::Word(_, _), rest @ ..] => Some((OperandForm::Literal, rest)),
+        _ => mask(lexemes),
+    }
+}
+
+/// An operand that begins with a type's name, from the lexemes after it, and the rest.
+fn typed(linked: bool, lexemes: &[Lexeme]) -> Option<(OperandForm, &[Lexeme])>
+    ensures { Gives (λ x. (x.0, x.1.now)) result (typed_at linked lexemes.now) }
+{
+    if linked {
+        literal(lexemes)
+    } else {
+        mask(lexemes)
+    }
+}
+
+/// A fixed stack object, and the rest.
+fn fixed(linked: bool, n: u32, rest: &[Lexeme]) -> Option<(OperandForm, &[Lexeme])>
+    ensures { Gives (λ x. (x.0, x.1.now)) result (fixed_at linked n rest.now) }
+{
+    if linked {
+        Some((OperandForm::Fixed(n), rest))
+    } else {
+        None
+    }
+}
+
 /// A register operand, and the rest.
 fn register_operand(lexemes: &[Lexeme]) -> Option<(OperandForm, &[Lexeme])>
     ensures { Gives (λ x. (x.0, x.1.now)) result (register_operand_at lexemes.now) }
@@ -231,41 +289,47 @@ fn register_operand(lexemes: &[Lexeme]) -> Option<(OperandForm, &[Lexeme])>
 #[tactic(auto, unfolding(crate::specs::Operand::word_operand_at))]
 fn word_operand<'a>(
     alloc: Global,
+    linked: bool,
     line: &[u8],
     word: Word,
     rest: &'a [Lexeme],
 ) -> Result<Option<(OperandForm, &'a [Lexeme])>, AllocError>
-    ensures { IfOk result (λ read. Gives (λ x. (x.0, x.1.now)) read (word_operand_at line.now word rest.now)) }
+    ensures { IfOk result (λ read. Gives (λ x. (x.0, x.1.now)) read (word_operand_at linked line.now word rest.now)) }
 {
     match word {
         Word::Flag(_) | Word::InstrNumber | Word::Location => Ok(None),
-        Word::TargetFlags => flagged_symbol(alloc, line, rest),
+        Word::TargetFlags => flagged_symbol(alloc, linked, line, rest),
         Word::InstrRef => Ok(reference(rest)),
+        Word::TypeName => Ok(typed(linked, rest)),
         _ => Ok(mask(rest)),
     }
 }
 
-/// An operand, and the rest.
+/// An operand, and the rest; `linked` is whether those of the linked language are read.
 #[tactic(auto, unfolding(crate::specs::Operand::operand_at))]
 pub fn operand<'a>(
     alloc: Global,
+    linked: bool,
     line: &[u8],
     lexemes: &'a [Lexeme],
 ) -> Result<Option<(OperandForm, &'a [Lexeme])>, AllocError>
-    ensures { IfOk result (λ read. Gives (λ x. (x.0, x.1.now)) read (operand_at line.now lexemes.now)) }
+    ensures { IfOk result (λ read. Gives (λ x. (x.0, x.1.now)) read (operand_at linked line.now lexemes.now)) }
 {
     match lexemes {
         [Lexeme::Word(Word::Flag(_), _), ..] => Ok(register_operand(lexemes)),
-        [Lexeme::Word(word, _), rest @ ..] => word_operand(alloc, line, *word, rest),
+        [Lexeme::Word(word, _), rest @ ..] => word_operand(alloc, linked, line, *word, rest),
         [Lexeme::Register(_), ..] => Ok(register_operand(lexemes)),
         [Lexeme::Slot(slot), rest @ ..] => Ok(Some((OperandForm::Slot(*slot), rest))),
         [Lexeme::Block(block), rest @ ..] => Ok(Some((OperandForm::Block(*block), rest))),
+        [Lexeme::Fixed(n), rest @ ..] => Ok(fixed(linked, *n, rest)),
         [Lexeme::Node(node), rest @ ..] => Ok(Some((OperandForm::Node(*node), rest))),
         [Lexeme::Expression, Lexeme::Open, rest @ ..] => Ok(expression_operand(rest)),
         [Lexeme::Integer(number), rest @ ..] => {
             Ok(Some((OperandForm::Integer(fitting(*number)), rest)))
         }
-        [Lexeme::Symbol(_), ..] => symbol(alloc, line, lexemes),
+        [Lexeme::Constant(_) | Lexeme::Symbol(_), ..] => {
+            symbol_by(alloc, linked, line, None, lexemes)
+        }
         _ => Ok(None),
     }
 }

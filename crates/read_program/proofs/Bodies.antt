@@ -1,18 +1,15 @@
 -- What a body keeps while its lines are read: its blocks are as they are read, and each of its items keeps what every item keeps that was judged.
-use Rattle.std.proofs.Common.{◌≡◌, ℕ, ◌+◌, ◌≤◌, Bool, true, false, cond, eqb, ltb, leb, List, [], ◌∷◌, ◌++◌, length, All, Option, Some, None, Result}
-use Rattle.std.proofs.Common.{Ok, Err, refl, sym}
+use Rattle.std.proofs.Common.{◌≡◌, ℕ, ◌+◌, ◌≤◌, Bool, true, false, cond, ltb, leb, List, [], ◌∷◌, ◌++◌, length, All, Option, Some, None}
+use Rattle.std.proofs.Common.{Ok, refl, sym}
 use Rattle.std.proofs.Common.{ap, subst, ◌∙◌, inl, inr, arith}
 use Rattle.std.proofs.lemmas.List.{map-append, length-append, append-nil, append_assoc}
 use Rattle.std.specs.List.{slice_get}
 use Rattle.std.specs.Prelude.{option_map}
-use Rattle.std.proofs.lemmas.Bool.{or_parts, or_left, or_right, ltb-false, leb-false, false≢true}
+use Rattle.std.proofs.lemmas.Bool.{or_parts, ltb-false, leb-false, false≢true}
 use Rattle.std.proofs.lemmas.List.Elements.{All-nil, All-push, All-same}
 use Rattle.std.proofs.lemmas.List.Concat.{flat_map-append}
-use Rattle.std.proofs.lemmas.List.Folds.{list_any-append}
 use Rattle.read_refusal.specs.declared.kind.RefusalKind.{RefusalKind}
 use Rattle.read_refusal.specs.declared.kind.RefusalKind.TheVariants as kinds
-use Rattle.read_metadata.specs.Maps.{Maps}
-use Rattle.read_lexer.specs.declared.line.Line.{Line}
 use Rattle.mir_func.specs.declared.block.Block.{Block}
 use Rattle.mir_func.specs.declared.item.Item.{Item}
 use Rattle.mir_func.specs.declared.item.ItemKind.{ItemKind}
@@ -21,22 +18,15 @@ use Rattle.mir_func.specs.declared.location.Loc.{Loc}
 use Rattle.mir_func.specs.declared.position.Origin.TheVariants.{Kept}
 use Rattle.mir_func.specs.Sound.{AreApart, ids_of, items_of, number_of, code_number, NumbersOnce}
 use Rattle.mir_func.specs.Limits.{MAX_BLOCKS}
-use Rattle.read_line.specs.declared.form.BodyLine.{BodyLine}
 use Rattle.read_line.specs.declared.form.BodyLine.TheVariants as lines
-use Rattle.read_line.specs.declared.form.ItemForm.{ItemForm}
-use Rattle.read_line.specs.declared.form.FormError.{FormError}
-use Rattle.read_line.specs.Body.{body_line_of}
-use Rattle.read_item.specs.declared.judged.Judged.{Judged}
 use Rattle.read_item.specs.declared.judged.Judged.TheVariants as judged_as
-use Rattle.read_item.specs.declared.judged.JudgedItem.{JudgedItem}
-use Rattle.read_item.specs.Judge.{judged}
 use Rattle.read_body.specs.declared.body.Body.{Body}
 use Rattle.read_body.specs.Limits.{MAX_ITEMS}
 use Rattle.read_body.specs.FirstUseOrder.{is_met, met}
-use Rattle.read_body.specs.Body.{nothing_read, and_last, blocks_of, label_cause, with_label, repeats, block_with, constant_of, object_named}
+use Rattle.read_body.specs.Body.{nothing_read, and_last, blocks_of, label_cause, with_label, with_closed, repeats, block_with, constant_of, object_named}
 use Rattle.read_body.specs.Body.{with_number, with_constant}
 use Rattle.read_body.specs.Body.{with_object, with_variable, with_facts, with_item, exceeds, item_cause}
-use Rattle.read_program.specs.BodyLines.{unless, judged_said, item_said, line_said, behind_line, and_then, body_behind, body_of}
+use Rattle.read_program.specs.BodyLines.{unless}
 use Rattle.read_program.proofs.Lists.{push_read, apart_push, met_keeps, met_has, met_at, met_new, All-front, All-last}
 
 -- ---- what is met in an item leaves the blocks as they are
@@ -210,7 +200,7 @@ pub record IsReadBody (P : ItemKind → Loc → Type 0) (body : Body) : Type 0 w
   pub ids : body.ids ≡ ids_of (blocks_of body)
   pub apart : AreApart (ids_of (blocks_of body))
   pub few_blocks : length body.ids ≤ MAX_BLOCKS
-  pub counted : length (items_of (blocks_of body)) ≡ body.items
+  pub counted : length (items_of (blocks_of body)) ≤ body.items
   pub few : body.items ≤ MAX_ITEMS
   pub codes : (i : ℕ) (x : Item) (k : ℕ) → slice_get (items_of (blocks_of body)) i ≡ Some x → code_number x.kind ≡ Some k → is_met k body.codes ≡ true
   pub numbers : (i : ℕ) (x : Item) (k : ℕ) → slice_get (items_of (blocks_of body)) i ≡ Some x → number_of x.kind ≡ Some k → is_met k body.numbers ≡ true
@@ -223,7 +213,7 @@ module _ (P : ItemKind → Loc → Type 0) where
     ids = refl;
     apart = λ i j n e f. absurd cc;
     few_blocks = omega arith;
-    counted = refl;
+    counted = omega arith;
     few = omega arith;
     codes = λ i x k e f. absurd cc;
     numbers = λ i x k e f. absurd cc;
@@ -252,7 +242,7 @@ module _ (P : ItemKind → Loc → Type 0) where
       omega (arith, ap length flat, length-append (items_of bs) (b.items ++ []), ap length (append-nil b.items))
 
   -- a label
-  label_reads : (body : Body) (n : ℕ) → label_cause body n ≡ None → IsReadBody P body → IsReadBody P (with_label body n)
+  pub label_reads : (body : Body) (n : ℕ) → label_cause body n ≡ None → IsReadBody P body → IsReadBody P (with_label body n)
   label_reads body n none is = record {
     blocks = All-push (IsReadBlock P) (blocks_of body) block is.blocks (record {
       items = λ k i e. absurd cc;
@@ -282,6 +272,21 @@ module _ (P : ItemKind → Loc → Type 0) where
     unmet : is_met n body.ids ≡ false
     unmet = (no_cause (is_met n body.ids) (leb MAX_BLOCKS (length body.ids)) kinds.DuplicateBlock kinds.TooMany none).0
 
+  -- control doesn't leave the last block
+  pub closed_reads : (body : Body) (last : Option Block) → IsReadBody P body → IsReadBody P (with_closed body last)
+  closed_reads body None is = is
+  closed_reads body (Some b) is = record {
+    blocks = is.blocks;
+    ids = is.ids;
+    apart = is.apart;
+    few_blocks = is.few_blocks;
+    counted = is.counted;
+    few = is.few;
+    codes = is.codes;
+    numbers = is.numbers;
+    once = is.once;
+  }
+
   -- the last block has one item more
   last_more : (body : Body) (b : Block) (kind : ItemKind) (loc : Loc) (entries : List ℕ) → body.last ≡ Some b →
       blocks_of (with_item body kind loc entries) ≡ body.before ++ block_with kind loc b ∷ []
@@ -291,7 +296,7 @@ module _ (P : ItemKind → Loc → Type 0) where
       ∙ ap (λ (bs : List Block). bs ++ block_with kind loc b ∷ []) same.before
 
   -- an item
-  item_reads : (body : Body) (b : Block) (kind : ItemKind) (loc : Loc) (entries : List ℕ) → body.last ≡ Some b → P kind loc →
+  pub item_reads : (body : Body) (b : Block) (kind : ItemKind) (loc : Loc) (entries : List ℕ) → body.last ≡ Some b → P kind loc →
       item_cause body kind loc entries ≡ None → IsReadBody P body → IsReadBody P (with_item body kind loc entries)
   item_reads body b kind loc entries last p none is = record {
     blocks = All-same (IsReadBlock P) (blocks_of next) (body.before ++ more ∷ []) now
@@ -360,163 +365,3 @@ module _ (P : ItemKind → Loc → Type 0) where
 
     within : exceeds next ≡ false
     within = (no_cause (repeats body kind) (exceeds next) kinds.DuplicateNumber kinds.TooMany none).1
-
--- ---- growth
-
--- what is met in a body stays met
-pub record Grows (a b : Body) : Type 0 where
-  pub entries : (n : ℕ) → is_met n a.entries ≡ true → is_met n b.entries ≡ true
-  pub objects : (n : ℕ) → is_met n a.objects ≡ true → is_met n b.objects ≡ true
-
-grows_not : (a b : Body) → a.entries ≡ b.entries → a.objects ≡ b.objects → Grows a b
-grows_not a b entries objects = record { entries = λ n e. ap (is_met n) (sym entries) ∙ e; objects = λ n e. ap (is_met n) (sym objects) ∙ e }
-
-grows_on : (a b c : Body) → Grows a b → Grows b c → Grows a c
-grows_on a b c g h = record { entries = λ n e. h.entries n (g.entries n e); objects = λ n e. h.objects n (g.objects n e) }
-
-same_objects_number : (body : Body) (kind : ItemKind) → (with_number body kind).objects ≡ body.objects
-same_objects_number body (Code i None) = refl
-same_objects_number body (Code i (Some k)) = refl
-same_objects_number body (Mark v m) = refl
-same_objects_number body (Phi p k) = refl
-
-same_objects_constant : (body : Body) (n : Option ℕ) → (with_constant body n).objects ≡ body.objects
-same_objects_constant body None = refl
-same_objects_constant body (Some n) = refl
-
-same_objects_variable : (body : Body) (kind : ItemKind) → (with_variable body kind).objects ≡ body.objects
-same_objects_variable body (Code i k) = refl
-same_objects_variable body (Mark v m) = refl
-same_objects_variable body (Phi p k) = refl
-
-object_grows : (body : Body) (o : Option ℕ) (n : ℕ) → is_met n body.objects ≡ true → is_met n (with_object body o).objects ≡ true
-object_grows body None n is = is
-object_grows body (Some m) n is = met_keeps n m body.objects is
-
-object_is_met : (body : Body) (o : Option ℕ) (n : ℕ) → o ≡ Some n → is_met n (with_object body o).objects ≡ true
-object_is_met body None n e = absurd cc
-object_is_met body (Some m) n e = let same : m ≡ n = cc in subst (λ (x : ℕ). is_met n (met x body.objects) ≡ true) (sym same) (met_has n body.objects)
-
--- what an item brings
-pub record IsMetIn (kind : ItemKind) (named : List ℕ) (body : Body) : Type 0 where
-  pub entries : (n : ℕ) → is_met n named ≡ true → is_met n body.entries ≡ true
-  pub object : (n : ℕ) → object_named kind ≡ Some n → is_met n body.objects ≡ true
-
-item_objects : (body : Body) (kind : ItemKind) (loc : Loc) (entries : List ℕ) (n : ℕ) →
-    is_met n (with_object (with_constant (with_number body kind) (constant_of kind)) (object_named kind)).objects ≡ true →
-    is_met n (with_item body kind loc entries).objects ≡ true
-item_objects body kind loc entries n is =
-    ap (is_met n) (same_objects_variable (with_object (with_constant (with_number body kind) (constant_of kind)) (object_named kind)) kind) ∙ is
-
-item_grows : (body : Body) (kind : ItemKind) (loc : Loc) (entries : List ℕ) → Grows body (with_item body kind loc entries)
-item_grows body kind loc entries = record {
-  entries = λ n e. list_any-append (λ (m : ℕ). eqb n m) (with_facts body kind).entries entries
-      ∙ or_left (is_met n (with_facts body kind).entries) (is_met n entries) (ap (is_met n) (facts_apart body kind).entries ∙ e);
-  objects = λ n e. item_objects body kind loc entries n (object_grows (with_constant (with_number body kind) (constant_of kind)) (object_named kind) n
-      (ap (is_met n) (same_objects_constant (with_number body kind) (constant_of kind) ∙ same_objects_number body kind) ∙ e));
-}
-
-item_is_met : (body : Body) (kind : ItemKind) (loc : Loc) (entries : List ℕ) → IsMetIn kind entries (with_item body kind loc entries)
-item_is_met body kind loc entries = record {
-  entries = λ n e. list_any-append (λ (m : ℕ). eqb n m) (with_facts body kind).entries entries
-      ∙ or_right (is_met n (with_facts body kind).entries) (is_met n entries) e;
-  object = λ n e. item_objects body kind loc entries n (object_is_met (with_constant (with_number body kind) (constant_of kind)) (object_named kind) n e);
-}
-
-judged_grows : (body next : Body) (number : Option ℕ) (read : Result Judged RefusalKind) → judged_said body number read ≡ Ok next → Grows body next
-judged_grows body next number (Ok judged_as.Passed) e = let same : body ≡ next = cc in subst (Grows body) same (grows_not body body refl refl)
-judged_grows body next number (Ok (judged_as.Item j)) e =
-    subst (Grows body) (unless_ok (item_cause body j.kind j.loc j.entries) (with_item body j.kind j.loc j.entries) next e).1
-    (item_grows body j.kind j.loc j.entries)
-judged_grows body next number (Err kind) e = absurd cc
-
-item_line_grows : (meta : Maps) (body next : Body) (form : ItemForm) (last : Option Block) → item_said meta body last form ≡ Ok next → Grows body next
-item_line_grows meta body next form None e = absurd cc
-item_line_grows meta body next form (Some b) e = judged_grows body next form.number (judged meta form) e
-
-said_grows : (meta : Maps) (body next : Body) (read : Result BodyLine FormError) → line_said meta body read ≡ Ok next → Grows body next
-said_grows meta body next (Ok lines.Passed) e = let same : body ≡ next = cc in subst (Grows body) same (grows_not body body refl refl)
-said_grows meta body next (Ok (lines.Label None)) e = absurd cc
-said_grows meta body next (Ok (lines.Label (Some n))) e =
-    subst (Grows body) (unless_ok (label_cause body n) (with_label body n) next e).1 (grows_not body (with_label body n) refl refl)
-said_grows meta body next (Ok (lines.Item form)) e = item_line_grows meta body next form body.last e
-said_grows meta body next (Err kind) e = absurd cc
-
-lines_grow_from : (meta : Maps) (body : Body) (l : Line) (ls : List Line) (end : Body) (read : Result Body RefusalKind) → behind_line meta body l.text ≡ read →
-    ((next : Body) → body_behind meta next ls ≡ Ok end → Grows next end) → and_then l.number read (λ b. body_behind meta b ls) ≡ Ok end → Grows body end
-lines_grow_from meta body l ls end (Ok next) is more e = grows_on body next end (said_grows meta body next (body_line_of l.text) is) (more next e)
-lines_grow_from meta body l ls end (Err kind) is more e = absurd cc
-
-lines_grow : (meta : Maps) (body : Body) (ls : List Line) (end : Body) → body_behind meta body ls ≡ Ok end → Grows body end
-unfolding body_behind
-lines_grow meta body [] end e = let same : body ≡ end = cc in subst (Grows body) same (grows_not body body refl refl)
-lines_grow meta body (l ∷ ls) end e = lines_grow_from meta body l ls end (behind_line meta body l.text) refl (λ next f. lines_grow meta next ls end f) e
-
--- ---- lines
-
--- an item that comes from a line
-pub record ComesFromLine (meta : Maps) (end : Body) (kind : ItemKind) (loc : Loc) : Type 0 where
-  pub text : List ℕ
-  pub form : ItemForm
-  pub item : JudgedItem
-  pub says : body_line_of text ≡ Ok (lines.Item form)
-  pub judged : judged meta form ≡ Ok (judged_as.Item item)
-  pub kind_is : item.kind ≡ kind
-  pub loc_is : item.loc ≡ loc
-  pub entries : (n : ℕ) → is_met n item.entries ≡ true → is_met n end.entries ≡ true
-  pub object : (n : ℕ) → object_named item.kind ≡ Some n → is_met n end.objects ≡ true
-
-module _ (meta : Maps) (end : Body) where
-  abbrev Reads : Body → Type 0
-  Reads body = IsReadBody (ComesFromLine meta end) body
-
-  -- an item line
-  judged_reads : (body next : Body) (b : Block) (text : List ℕ) (form : ItemForm) → body.last ≡ Some b → body_line_of text ≡ Ok (lines.Item form) →
-      (read : Result Judged RefusalKind) → judged meta form ≡ read → judged_said body form.number read ≡ Ok next → Grows next end → Reads body → Reads next
-  judged_reads body next b text form last says (Ok judged_as.Passed) is e grown reads = let same : body ≡ next = cc in subst Reads same reads
-  judged_reads body next b text form last says (Ok (judged_as.Item j)) is e grown reads =
-      let read = unless_ok (item_cause body j.kind j.loc j.entries) (with_item body j.kind j.loc j.entries) next e in
-      let brought = subst (IsMetIn j.kind j.entries) read.1 (item_is_met body j.kind j.loc j.entries) in
-      subst Reads read.1 (item_reads (ComesFromLine meta end) body b j.kind j.loc j.entries last (record {
-        text = text;
-        form = form;
-        item = j;
-        says = says;
-        judged = is;
-        kind_is = refl;
-        loc_is = refl;
-        entries = λ n m. grown.entries n (brought.entries n m);
-        object = λ n m. grown.objects n (brought.object n m);
-      }) read.0 reads)
-  judged_reads body next b text form last says (Err kind) is e grown reads = absurd cc
-
-  item_line_reads : (body next : Body) (text : List ℕ) (form : ItemForm) → body_line_of text ≡ Ok (lines.Item form) →
-      (last : Option Block) → body.last ≡ last → item_said meta body last form ≡ Ok next → Grows next end → Reads body → Reads next
-  item_line_reads body next text form says None last e grown reads = absurd cc
-  item_line_reads body next text form says (Some b) last e grown reads = judged_reads body next b text form last says (judged meta form) refl e grown reads
-
-  said_reads : (body next : Body) (text : List ℕ) (read : Result BodyLine FormError) → body_line_of text ≡ read → line_said meta body read ≡ Ok next →
-      Grows next end → Reads body → Reads next
-  said_reads body next text (Ok lines.Passed) says e grown reads = let same : body ≡ next = cc in subst Reads same reads
-  said_reads body next text (Ok (lines.Label None)) says e grown reads = absurd cc
-  said_reads body next text (Ok (lines.Label (Some n))) says e grown reads =
-      let read = unless_ok (label_cause body n) (with_label body n) next e in
-      subst Reads read.1 (label_reads (ComesFromLine meta end) body n read.0 reads)
-  said_reads body next text (Ok (lines.Item form)) says e grown reads = item_line_reads body next text form says body.last refl e grown reads
-  said_reads body next text (Err kind) says e grown reads = absurd cc
-
-  lines_read_from : (body : Body) (l : Line) (ls : List Line) → Reads body → (read : Result Body RefusalKind) → behind_line meta body l.text ≡ read →
-      ((next : Body) → Reads next → body_behind meta next ls ≡ Ok end → Reads end) →
-      and_then l.number read (λ b. body_behind meta b ls) ≡ Ok end → Reads end
-  lines_read_from body l ls reads (Ok next) is more e =
-      more next (said_reads body next l.text (body_line_of l.text) refl is (lines_grow meta next ls end e) reads) e
-  lines_read_from body l ls reads (Err kind) is more e = absurd cc
-
-  lines_read : (body : Body) (ls : List Line) → Reads body → body_behind meta body ls ≡ Ok end → Reads end
-  unfolding body_behind
-  lines_read body [] reads e = let same : body ≡ end = cc in subst Reads same reads
-  lines_read body (l ∷ ls) reads e = lines_read_from body l ls reads (behind_line meta body l.text) refl (λ next r f. lines_read next ls r f) e
-
--- a body that was read
-pub body_reads : (meta : Maps) (ls : List Line) (body : Body) → body_of meta ls ≡ Ok body → IsReadBody (ComesFromLine meta body) body
-body_reads meta ls body e = lines_read meta body nothing_read ls (nothing_is_read (ComesFromLine meta body)) e

@@ -82,13 +82,13 @@ object_push (p ∷ os) o n = by (eqb p.id n) (object_push os o n) where
   by true rest = refl
   by false rest = rest
 
-eqb_turned : (a b : ℕ) → eqb a b ≡ eqb b a
+pub eqb_turned : (a b : ℕ) → eqb a b ≡ eqb b a
 eqb_turned a b = elim (cases_Bool (eqb a b)) [
   | inl same ↦ same ∙ sym (eq-eqb b a (sym (eqb-true a b same)))
   | inr other ↦ other ∙ sym (ne_eqb b a (λ e. eqb-false a b other (sym e)))
 ]
 
-met_is : (n m : ℕ) (ns : List ℕ) → is_met n (met m ns) ≡ (is_met n ns || eqb m n)
+pub met_is : (n m : ℕ) (ns : List ℕ) → is_met n (met m ns) ≡ (is_met n ns || eqb m n)
 met_is n m ns = elim (cases_Bool (is_met m ns)) [
   | inl there ↦ ap (λ (l : List ℕ). is_met n l) (cond-true (is_met m ns) ns (ns ++ m ∷ []) there) ∙ sym (absorbed (eqb m n) refl there)
   | inr none ↦ ap (λ (l : List ℕ). is_met n l) (cond-false (is_met m ns) ns (ns ++ m ∷ []) none) ∙ list_any-append (λ (k : ℕ). eqb n k) ns (m ∷ [])

@@ -2,6 +2,9 @@
 use Rattle.std.proofs.Common.{◌≡◌, ◌⊎◌, ℕ, ℤ, zero, suc, ◌+◌, Bool, true, false, cond, ◌&&◌, ltb, leb, List, [], ◌∷◌, length, Option, Some, None}
 use Rattle.std.proofs.Common.{Result, Ok, Err, refl, subst, inl, inr}
 use Rattle.std.proofs.lemmas.Bool.{and_parts, leb-true}
+use Rattle.rv64_instr.specs.declared.symbol.Symbol.{Symbol as Linked}
+use Rattle.rv64_instr.specs.declared.symbol.Symbol.TheVariants.{Global, Constant as PoolConstant}
+use Rattle.rv64_instr.specs.declared.symbol.Half.{Half}
 use Rattle.rv64_instr.specs.Form.{IsSigned}
 use Rattle.mir_func.specs.Parts.{Bytes, IsPart}
 use Rattle.read_lexer.specs.declared.fault.LexError.{LexError}
@@ -18,10 +21,10 @@ use Rattle.read_token.specs.declared.lexeme.RegisterName.{RegisterName}
 use Rattle.read_token.specs.declared.lexeme.RegisterName.TheVariants.{Virtual}
 use Rattle.read_token.specs.declared.lexeme.Word.{Word}
 use Rattle.read_token.specs.declared.lexeme.Word.TheVariants as words
-use Rattle.read_token.specs.Sentence.{lexemes_of}
+use Rattle.read_token.specs.Sentence.{lexemes_of, symbol_name}
 use Rattle.read_token.specs.Word.{case_of}
 use Rattle.read_line.specs.declared.form.BodyLine.{BodyLine}
-use Rattle.read_line.specs.declared.form.BodyLine.TheVariants.{Passed, Label, Item}
+use Rattle.read_line.specs.declared.form.BodyLine.TheVariants.{Passed, Closed, Label, Item}
 use Rattle.read_line.specs.declared.form.Expression.{Expression}
 use Rattle.read_line.specs.declared.form.Expression.TheVariants as expressions
 use Rattle.read_line.specs.declared.form.ItemForm.{ItemForm}
@@ -30,20 +33,23 @@ use Rattle.read_line.specs.declared.form.FormError.TheVariants.{BadLine}
 use Rattle.read_line.specs.declared.form.OperandForm.{OperandForm}
 use Rattle.read_line.specs.declared.form.OperandForm.TheVariants as operands
 use Rattle.read_line.specs.declared.form.RegisterForm.{RegisterForm}
-use Rattle.read_line.specs.Body.{is_listing, code_of, label_of, is_colon, labelled, as_item, sentence_of, line_of_tokens, body_line_of}
+use Rattle.read_line.specs.Address.{addend_at, addend_or_zero, address_form, address_behind, address_at, half_of}
+use Rattle.read_line.specs.Body.{closes_block, listing_of, is_listing, code_of, label_of, is_colon, labelled, as_item, sentence_of, line_of_tokens}
+use Rattle.read_line.specs.Body.{body_line_of}
 use Rattle.read_line.specs.Bracket.{inner_behind, behind_bracket}
 use Rattle.read_line.specs.Exceeds.{item_exceeds}
 use Rattle.read_line.specs.Item.{before, with_equals, definitions_at, definitions_of, is_lower, behind_words, opcode_at, behind_operand, operands_at}
-use Rattle.read_line.specs.Item.{begins_operand}
+use Rattle.read_line.specs.Item.{begins_operand, says_no_return}
 use Rattle.read_line.specs.Item.{operands_of, attributes_of_item, item_with, defined_item, item_of}
 use Rattle.read_line.specs.Operand.{fitting, whole_bytes, are_part, part_of, plain_part, argument_part, argument_expression, expression_of}
-use Rattle.read_line.specs.Operand.{expression_at, symbol_at}
+use Rattle.read_line.specs.Operand.{expression_at, symbol_at, symbol_by, literal_at, typed_at, fixed_at}
 use Rattle.read_line.specs.Operand.{is_zero, flagged_symbol_at, reference_at, mask_at, register_operand_at, word_operand_at, operand_at}
 use Rattle.read_line.specs.Read.{◌>>=◌, behind_comma, behind_equals}
 use Rattle.read_line.specs.Register.{joined, behind_class, behind_tied, named_at, register_at, begins_register}
 use Rattle.read_line.specs.Attribute.{begins_attribute}
 use Rattle.read_metadata.specs.Token.{text_of}
 use Rattle.read_program.proofs.Lexemes.{NameFits, NumberFits, AllFit, lexemes_fit}
+use Rattle.read_program.proofs.Addends.{AddendFits, addend_fits}
 
 -- ---- forms
 
@@ -56,11 +62,13 @@ abbrev pub IntegerFits : Option ℤ → Type 0
 IntegerFits None = Unit {0}
 IntegerFits (Some i) = IsSigned i
 
-abbrev pub FormFits : OperandForm → Type 0
-FormFits (operands.Register r) = NameFits r.name
-FormFits (operands.Integer i) = IntegerFits i
-FormFits (operands.Expression e) = ExpressionFits e
-FormFits o = Unit {0}
+-- halves of addresses are of the linked language
+abbrev pub FormFits : (linked : Bool) → OperandForm → Type 0
+FormFits linked (operands.Register r) = NameFits r.name
+FormFits linked (operands.Integer i) = IntegerFits i
+FormFits linked (operands.Expression e) = ExpressionFits e
+FormFits linked (operands.Part half a) = (linked ≡ true) × AddendFits a.addend
+FormFits linked o = Unit {0}
 
 -- R holds of each
 abbrev pub AllOf : {X : Type 0} → (X → Type 0) → List X → Type 0
@@ -206,70 +214,120 @@ expression_fits ts = tt
 
 -- ---- operands
 
-pub record ReadsOperand (read : OperandForm × List Lexeme) : Type 0 where
-  pub operand : FormFits read.0
+pub record ReadsOperand (linked : Bool) (read : OperandForm × List Lexeme) : Type 0 where
+  pub operand : FormFits linked read.0
   pub rest : AllFit read.1
 
-reads : (o : OperandForm) (ts : List Lexeme) (read : OperandForm × List Lexeme) → Some (o, ts) ≡ Some read → FormFits o → AllFit ts → ReadsOperand read
-reads o ts read e fits fit = let same : (o, ts) ≡ read = cc in subst ReadsOperand same (record { operand = fits; rest = fit })
+reads : (linked : Bool) (o : OperandForm) (ts : List Lexeme) (read : OperandForm × List Lexeme) → Some (o, ts) ≡ Some read → FormFits linked o → AllFit ts →
+    ReadsOperand linked read
+reads linked o ts read e fits fit = let same : (o, ts) ≡ read = cc in subst (ReadsOperand linked) same (record { operand = fits; rest = fit })
 
-symbol_fits : (line : List ℕ) (ts : List Lexeme) (read : OperandForm × List Lexeme) → symbol_at line ts ≡ Some read → AllFit ts → ReadsOperand read
-symbol_fits line (lexemes.Symbol t ∷ ts) read e fit = reads _ ts read e tt fit.1
-symbol_fits line ts read e fit = absurd cc
+symbol_fits : (linked : Bool) (line : List ℕ) (ts : List Lexeme) (read : OperandForm × List Lexeme) → symbol_at line ts ≡ Some read → AllFit ts →
+    ReadsOperand linked read
+symbol_fits linked line (lexemes.Symbol t ∷ ts) read e fit = reads linked _ ts read e tt fit.1
+symbol_fits linked line ts read e fit = absurd cc
 
-flagged_fits : (line : List ℕ) (ts : List Lexeme) (read : OperandForm × List Lexeme) → flagged_symbol_at line ts ≡ Some read → AllFit ts → ReadsOperand read
-flagged_fits line (lexemes.Open ∷ ts) read e fit =
-    let behind = bind_some (behind_bracket 0 ts) (symbol_at line) read e in
-    symbol_fits line behind.0 read behind.2 (bracket_fits 0 ts behind.0 behind.1 fit.1)
-flagged_fits line ts read e fit = absurd cc
+-- operands that are symbols
+address_form_fits : (linked : Bool) → linked ≡ true → (half : Option Half) (symbol : Linked) (addend : Option (Option ℤ)) → AddendFits (addend_or_zero addend) →
+    FormFits linked (address_form half symbol addend)
+address_form_fits linked is None (Global name) None fits = tt
+address_form_fits linked is None (Global name) (Some a) fits = tt
+address_form_fits linked is None (PoolConstant n) addend fits = tt
+address_form_fits linked is (Some half) symbol addend fits = (is, fits)
 
-reference_fits : (ts : List Lexeme) (read : OperandForm × List Lexeme) → reference_at ts ≡ Some read → AllFit ts → ReadsOperand read
-reference_fits (lexemes.Open ∷ lexemes.Integer k ∷ lexemes.Comma ∷ lexemes.Integer o ∷ lexemes.Close ∷ ts) read e fit = reads _ ts read e tt fit.1.1.1.1.1
-reference_fits ts read e fit = absurd cc
+address_behind_fits : (linked : Bool) → linked ≡ true → (half : Option Half) (symbol : Linked) (ts : List Lexeme) (read : OperandForm × List Lexeme) →
+    address_behind half symbol ts ≡ Some read → AllFit ts → ReadsOperand linked read
+address_behind_fits linked is half symbol ts read e fit =
+    let addend = bind_some (addend_at ts) _ read e in
+    let first = addend_fits ts addend.0 addend.1 fit in
+    reads linked (address_form half symbol addend.0.0) addend.0.1 read addend.2 (address_form_fits linked is half symbol addend.0.0 first.addend) first.rest
 
-mask_fits : (ts : List Lexeme) (read : OperandForm × List Lexeme) → mask_at ts ≡ Some read → AllFit ts → ReadsOperand read
-mask_fits (lexemes.Open ∷ ts) read e fit =
+address_fits : (linked : Bool) → linked ≡ true → (line : List ℕ) (half : Option Half) (ts : List Lexeme) (read : OperandForm × List Lexeme) →
+    address_at line half ts ≡ Some read → AllFit ts → ReadsOperand linked read
+address_fits linked is line half (lexemes.Symbol t ∷ ts) read e fit = address_behind_fits linked is half (Global (symbol_name line t)) ts read e fit.1
+address_fits linked is line half (lexemes.Constant n ∷ ts) read e fit = address_behind_fits linked is half (PoolConstant n) ts read e fit.1
+address_fits linked is line half ts read e fit = absurd cc
+
+symbol_by_fits : (linked : Bool) (line : List ℕ) (half : Option Half) (ts : List Lexeme) (read : OperandForm × List Lexeme) →
+    symbol_by linked line half ts ≡ Some read → AllFit ts → ReadsOperand linked read
+symbol_by_fits true line half ts read e fit = address_fits true refl line half ts read e fit
+symbol_by_fits false line half ts read e fit = symbol_fits false line ts read e fit
+
+flagged_fits : (linked : Bool) (line : List ℕ) (ts : List Lexeme) (read : OperandForm × List Lexeme) → flagged_symbol_at linked line ts ≡ Some read →
+    AllFit ts → ReadsOperand linked read
+flagged_fits linked line (lexemes.Open ∷ ts) read e fit =
+    let behind = bind_some (behind_bracket 0 ts) (symbol_by linked line (half_of ts)) read e in
+    symbol_by_fits linked line (half_of ts) behind.0 read behind.2 (bracket_fits 0 ts behind.0 behind.1 fit.1)
+flagged_fits linked line ts read e fit = absurd cc
+
+reference_fits : (linked : Bool) (ts : List Lexeme) (read : OperandForm × List Lexeme) → reference_at ts ≡ Some read → AllFit ts → ReadsOperand linked read
+reference_fits linked (lexemes.Open ∷ lexemes.Integer k ∷ lexemes.Comma ∷ lexemes.Integer o ∷ lexemes.Close ∷ ts) read e fit =
+    reads linked _ ts read e tt fit.1.1.1.1.1
+reference_fits linked ts read e fit = absurd cc
+
+mask_fits : (linked : Bool) (ts : List Lexeme) (read : OperandForm × List Lexeme) → mask_at ts ≡ Some read → AllFit ts → ReadsOperand linked read
+mask_fits linked (lexemes.Open ∷ ts) read e fit =
     let behind = bind_some (behind_bracket 0 ts) _ read e in
-    reads operands.Mask behind.0 read behind.2 tt (bracket_fits 0 ts behind.0 behind.1 fit.1)
-mask_fits ts read e fit = reads operands.Mask ts read e tt fit
+    reads linked operands.Mask behind.0 read behind.2 tt (bracket_fits 0 ts behind.0 behind.1 fit.1)
+mask_fits linked ts read e fit = reads linked operands.Mask ts read e tt fit
 
-expression_at_fits : (ts : List Lexeme) (read : OperandForm × List Lexeme) → expression_at ts ≡ Some read → AllFit ts → ReadsOperand read
-expression_at_fits ts read e fit =
+literal_fits : (linked : Bool) (ts : List Lexeme) (read : OperandForm × List Lexeme) → literal_at ts ≡ Some read → AllFit ts → ReadsOperand linked read
+literal_fits linked (lexemes.Integer n ∷ ts) read e fit = reads linked operands.Literal ts read e tt fit.1
+literal_fits linked (lexemes.Word w t ∷ ts) read e fit = reads linked operands.Literal ts read e tt fit.1
+literal_fits linked ts read e fit = mask_fits linked ts read e fit
+
+typed_fits : (linked : Bool) (ts : List Lexeme) (read : OperandForm × List Lexeme) → typed_at linked ts ≡ Some read → AllFit ts → ReadsOperand linked read
+typed_fits true ts read e fit = literal_fits true ts read e fit
+typed_fits false ts read e fit = mask_fits false ts read e fit
+
+fixed_fits : (linked : Bool) (n : ℕ) (ts : List Lexeme) (read : OperandForm × List Lexeme) → fixed_at linked n ts ≡ Some read → AllFit ts →
+    ReadsOperand linked read
+fixed_fits true n ts read e fit = reads true (operands.Fixed n) ts read e tt fit
+fixed_fits false n ts read e fit = absurd cc
+
+expression_at_fits : (linked : Bool) (ts : List Lexeme) (read : OperandForm × List Lexeme) → expression_at ts ≡ Some read → AllFit ts → ReadsOperand linked read
+expression_at_fits linked ts read e fit =
     let behind = bind_some (behind_bracket 0 ts) _ read e in
-    reads (operands.Expression (expression_of ts)) behind.0 read behind.2 (expression_fits ts) (bracket_fits 0 ts behind.0 behind.1 fit)
+    reads linked (operands.Expression (expression_of ts)) behind.0 read behind.2 (expression_fits ts) (bracket_fits 0 ts behind.0 behind.1 fit)
 
-register_operand_fits : (ts : List Lexeme) (read : OperandForm × List Lexeme) → register_operand_at ts ≡ Some read → AllFit ts → ReadsOperand read
-register_operand_fits ts read e fit =
+register_operand_fits : (linked : Bool) (ts : List Lexeme) (read : OperandForm × List Lexeme) → register_operand_at ts ≡ Some read → AllFit ts →
+    ReadsOperand linked read
+register_operand_fits linked ts read e fit =
     let r = bind_some (register_at Plain ts) _ read e in
     let is = register_at_fits Plain ts r.0 r.1 fit in
-    reads (operands.Register r.0.0) r.0.1 read r.2 is.register is.rest
+    reads linked (operands.Register r.0.0) r.0.1 read r.2 is.register is.rest
 
-word_fits : (line : List ℕ) (w : Word) (ts : List Lexeme) (read : OperandForm × List Lexeme) → word_operand_at line w ts ≡ Some read → AllFit ts →
-    ReadsOperand read
+word_fits : (linked : Bool) (line : List ℕ) (w : Word) (ts : List Lexeme) (read : OperandForm × List Lexeme) →
+    word_operand_at linked line w ts ≡ Some read → AllFit ts →
+    ReadsOperand linked read
 unfolding word_operand_at
-word_fits line (words.Flag f) ts read e fit = absurd cc
-word_fits line words.InstrNumber ts read e fit = absurd cc
-word_fits line words.Location ts read e fit = absurd cc
-word_fits line words.TargetFlags ts read e fit = flagged_fits line ts read e fit
-word_fits line words.InstrRef ts read e fit = reference_fits ts read e fit
-word_fits line w ts read e fit = mask_fits ts read e fit
+word_fits linked line (words.Flag f) ts read e fit = absurd cc
+word_fits linked line words.InstrNumber ts read e fit = absurd cc
+word_fits linked line words.Location ts read e fit = absurd cc
+word_fits linked line words.TargetFlags ts read e fit = flagged_fits linked line ts read e fit
+word_fits linked line words.InstrRef ts read e fit = reference_fits linked ts read e fit
+word_fits linked line words.TypeName ts read e fit = typed_fits linked ts read e fit
+word_fits linked line w ts read e fit = mask_fits linked ts read e fit
 
 integer_fits : (n : Number) → NumberFits n → IntegerFits (fitting n)
 integer_fits (Fits i) fits = fits
 integer_fits n fits = tt
 
-operand_fits : (line : List ℕ) (ts : List Lexeme) (read : OperandForm × List Lexeme) → operand_at line ts ≡ Some read → AllFit ts → ReadsOperand read
+operand_fits : (linked : Bool) (line : List ℕ) (ts : List Lexeme) (read : OperandForm × List Lexeme) → operand_at linked line ts ≡ Some read → AllFit ts →
+    ReadsOperand linked read
 unfolding operand_at
-operand_fits line (lexemes.Word (words.Flag f) t ∷ ts) read e fit = register_operand_fits (lexemes.Word (words.Flag f) t ∷ ts) read e fit
-operand_fits line (lexemes.Word w t ∷ ts) read e fit = word_fits line w ts read e fit.1
-operand_fits line (lexemes.Register name ∷ ts) read e fit = register_operand_fits (lexemes.Register name ∷ ts) read e fit
-operand_fits line (lexemes.Slot n ∷ ts) read e fit = reads _ ts read e tt fit.1
-operand_fits line (lexemes.Block n ∷ ts) read e fit = reads _ ts read e tt fit.1
-operand_fits line (lexemes.Node n ∷ ts) read e fit = reads _ ts read e tt fit.1
-operand_fits line (lexemes.Expression ∷ lexemes.Open ∷ ts) read e fit = expression_at_fits ts read e fit.1.1
-operand_fits line (lexemes.Integer n ∷ ts) read e fit = reads _ ts read e (integer_fits n fit.0) fit.1
-operand_fits line (lexemes.Symbol t ∷ ts) read e fit = symbol_fits line (lexemes.Symbol t ∷ ts) read e fit
-operand_fits line ts read e fit = absurd cc
+operand_fits linked line (lexemes.Word (words.Flag f) t ∷ ts) read e fit = register_operand_fits linked (lexemes.Word (words.Flag f) t ∷ ts) read e fit
+operand_fits linked line (lexemes.Word w t ∷ ts) read e fit = word_fits linked line w ts read e fit.1
+operand_fits linked line (lexemes.Register name ∷ ts) read e fit = register_operand_fits linked (lexemes.Register name ∷ ts) read e fit
+operand_fits linked line (lexemes.Slot n ∷ ts) read e fit = reads linked _ ts read e tt fit.1
+operand_fits linked line (lexemes.Block n ∷ ts) read e fit = reads linked _ ts read e tt fit.1
+operand_fits linked line (lexemes.Fixed n ∷ ts) read e fit = fixed_fits linked n ts read e fit.1
+operand_fits linked line (lexemes.Constant n ∷ ts) read e fit = symbol_by_fits linked line None (lexemes.Constant n ∷ ts) read e fit
+operand_fits linked line (lexemes.Node n ∷ ts) read e fit = reads linked _ ts read e tt fit.1
+operand_fits linked line (lexemes.Expression ∷ lexemes.Open ∷ ts) read e fit = expression_at_fits linked ts read e fit.1.1
+operand_fits linked line (lexemes.Integer n ∷ ts) read e fit = reads linked _ ts read e (integer_fits n fit.0) fit.1
+operand_fits linked line (lexemes.Symbol t ∷ ts) read e fit = symbol_by_fits linked line None (lexemes.Symbol t ∷ ts) read e fit
+operand_fits linked line ts read e fit = absurd cc
 
 behind_operand_fits : (ts rest : List Lexeme) → behind_operand ts ≡ Some rest → AllFit ts → AllFit rest
 behind_operand_fits (lexemes.Comma ∷ ts) rest e fit = elim (if_some (begins_attribute ts) None (Some ts) rest e) [
@@ -278,33 +336,35 @@ behind_operand_fits (lexemes.Comma ∷ ts) rest e fit = elim (if_some (begins_at
 ]
 behind_operand_fits ts rest e fit = absurd cc
 
-before_operands : (o : OperandForm) (more : Option (List OperandForm × List Lexeme)) (read : List OperandForm × List Lexeme) → before o more ≡ Some read →
-    FormFits o → ((r : List OperandForm × List Lexeme) → more ≡ Some r → AllOf FormFits r.0) → AllOf FormFits read.0
-before_operands o None read e fits rest = absurd cc
-before_operands o (Some r) read e fits rest =
+before_operands : (linked : Bool) (o : OperandForm) (more : Option (List OperandForm × List Lexeme)) (read : List OperandForm × List Lexeme) →
+    before o more ≡ Some read →
+    FormFits linked o → ((r : List OperandForm × List Lexeme) → more ≡ Some r → AllOf (FormFits linked) r.0) → AllOf (FormFits linked) read.0
+before_operands linked o None read e fits rest = absurd cc
+before_operands linked o (Some r) read e fits rest =
     let same : (o ∷ r.0, r.1) ≡ read = cc in
-    subst (λ (x : List OperandForm × List Lexeme). AllOf FormFits x.0) same (fits, rest r refl)
+    subst (λ (x : List OperandForm × List Lexeme). AllOf (FormFits linked) x.0) same (fits, rest r refl)
 
-operands_at_fit : (line : List ℕ) (n : ℕ) (ts : List Lexeme) (read : List OperandForm × List Lexeme) → operands_at line n ts ≡ Some read → AllFit ts →
-    AllOf FormFits read.0
+operands_at_fit : (linked : Bool) (line : List ℕ) (n : ℕ) (ts : List Lexeme) (read : List OperandForm × List Lexeme) →
+    operands_at linked line n ts ≡ Some read → AllFit ts →
+    AllOf (FormFits linked) read.0
 unfolding operands_at
-operands_at_fit line zero ts read e fit = absurd cc
-operands_at_fit line (suc n) ts read e fit =
-    let o = bind_some (operand_at line ts) _ read e in
-    let first = operand_fits line ts o.0 o.1 fit in
-    elim (case_some (behind_operand o.0.1) (λ rest. before o.0.0 (operands_at line n rest)) (Some (o.0.0 ∷ [], o.0.1)) read o.2) [
-      | inl more ↦ before_operands o.0.0 (operands_at line n more.0) read more.2 first.operand
-          (λ r is. operands_at_fit line n more.0 r is (behind_operand_fits o.0.1 more.0 more.1 first.rest))
+operands_at_fit linked line zero ts read e fit = absurd cc
+operands_at_fit linked line (suc n) ts read e fit =
+    let o = bind_some (operand_at linked line ts) _ read e in
+    let first = operand_fits linked line ts o.0 o.1 fit in
+    elim (case_some (behind_operand o.0.1) (λ rest. before o.0.0 (operands_at linked line n rest)) (Some (o.0.0 ∷ [], o.0.1)) read o.2) [
+      | inl more ↦ before_operands linked o.0.0 (operands_at linked line n more.0) read more.2 first.operand
+          (λ r is. operands_at_fit linked line n more.0 r is (behind_operand_fits o.0.1 more.0 more.1 first.rest))
       | inr last ↦ (let same : (o.0.0 ∷ [], o.0.1) ≡ read = cc in
-          subst (λ (x : List OperandForm × List Lexeme). AllOf FormFits x.0) same (first.operand, tt))
+          subst (λ (x : List OperandForm × List Lexeme). AllOf (FormFits linked) x.0) same (first.operand, tt))
     ]
 
 -- ---- items
 
 -- the numbers of an item's line, which exceeds its limits where one of them does
-pub record ItemFits (form : ItemForm) : Type 0 where
+pub record ItemFits (linked : Bool) (form : ItemForm) : Type 0 where
   pub definitions : AllOf RegisterFits form.definitions
-  pub operands : AllOf FormFits form.operands
+  pub operands : AllOf (FormFits linked) form.operands
   pub lexemes : List Lexeme
   pub exceeds : form.exceeds ≡ item_exceeds lexemes form.definitions form.operands (record { number = form.number; loc = form.loc })
 
@@ -331,34 +391,36 @@ definitions_fit ts read e fit = elim (if_some (begins_register ts) (definitions_
       (record { registers = tt; rest = fit }))
 ]
 
-operands_fit : (line : List ℕ) (ts : List Lexeme) (read : List OperandForm × List Lexeme) → operands_of line ts ≡ Some read → AllFit ts → AllOf FormFits read.0
-operands_fit line ts read e fit = elim (if_some (begins_operand ts) (operands_at line (length ts) ts) (Some ([], ts)) read e) [
-  | inl is ↦ operands_at_fit line (length ts) ts read is.1 fit
+operands_fit : (linked : Bool) (line : List ℕ) (ts : List Lexeme) (read : List OperandForm × List Lexeme) → operands_of linked line ts ≡ Some read →
+    AllFit ts → AllOf (FormFits linked) read.0
+operands_fit linked line ts read e fit = elim (if_some (begins_operand ts) (operands_at linked line (length ts) ts) (Some ([], ts)) read e) [
+  | inl is ↦ operands_at_fit linked line (length ts) ts read is.1 fit
   | inr is ↦ (let none : List OperandForm = [] in let same : (none, ts) ≡ read = (let it = is.1 in cc) in
-      subst (λ (x : List OperandForm × List Lexeme). AllOf FormFits x.0) same tt)
+      subst (λ (x : List OperandForm × List Lexeme). AllOf (FormFits linked) x.0) same tt)
 ]
 
-defined_fits : (line : List ℕ) (ts : List Lexeme) (ds : List RegisterForm) (rest : List Lexeme) (form : ItemForm) → defined_item line ts ds rest ≡ Some form →
-    AllOf RegisterFits ds → AllFit rest → ItemFits form
+defined_fits : (linked : Bool) (line : List ℕ) (ts : List Lexeme) (ds : List RegisterForm) (rest : List Lexeme) (form : ItemForm) →
+    defined_item linked line ts ds rest ≡ Some form →
+    AllOf RegisterFits ds → AllFit rest → ItemFits linked form
 unfolding defined_item
-defined_fits line ts ds rest form e fits fit =
+defined_fits linked line ts ds rest form e fits fit =
     let opcode = bind_some (opcode_at (behind_words rest)) _ form e in
-    let os = bind_some (operands_of line opcode.0.1) _ form opcode.2 in
+    let os = bind_some (operands_of linked line opcode.0.1) _ form opcode.2 in
     let attributes = bind_some (attributes_of_item opcode.0.1 os.0.1) _ form os.2 in
-    let same : item_with ts ds (text_of line opcode.0.0) os.0.0 attributes.0 ≡ form = (let it = attributes.2 in cc) in
-    subst ItemFits same (record {
+    let same : item_with ts ds (text_of line opcode.0.0) os.0.0 (says_no_return rest) attributes.0 ≡ form = (let it = attributes.2 in cc) in
+    subst (ItemFits linked) same (record {
       definitions = fits;
-      operands = operands_fit line opcode.0.1 os.0 os.1 (opcode_fits (behind_words rest) opcode.0 opcode.1 (words_fit rest fit));
+      operands = operands_fit linked line opcode.0.1 os.0 os.1 (opcode_fits (behind_words rest) opcode.0 opcode.1 (words_fit rest fit));
       lexemes = ts;
       exceeds = refl;
     })
 
-item_fits : (line : List ℕ) (ts : List Lexeme) (form : ItemForm) → item_of line ts ≡ Some form → AllFit ts → ItemFits form
+item_fits : (linked : Bool) (line : List ℕ) (ts : List Lexeme) (form : ItemForm) → item_of linked line ts ≡ Some form → AllFit ts → ItemFits linked form
 unfolding item_of
-item_fits line ts form e fit =
-    let ds = bind_some (definitions_of ts) (λ d. defined_item line ts d.0 d.1) form e in
+item_fits linked line ts form e fit =
+    let ds = bind_some (definitions_of ts) (λ d. defined_item linked line ts d.0 d.1) form e in
     let is = definitions_fit ts ds.0 ds.1 fit in
-    defined_fits line ts ds.0.0 ds.0.1 form ds.2 is.registers is.rest
+    defined_fits linked line ts ds.0.0 ds.0.1 form ds.2 is.registers is.rest
 
 -- ---- lines
 
@@ -382,23 +444,29 @@ labelled_no_item n (Some rest) form e =
     let no_colon : ◌≡◌ {A = Result BodyLine FormError} (Err BadLine) (Ok (Item form)) = if_ok (is_colon rest) (Ok (label_of n)) (Err BadLine) (Ok
     (Item form)) e (label_no_item n form) in cc
 
-sentence_fits : (line : List ℕ) (ts : List Lexeme) (form : ItemForm) → sentence_of line ts ≡ Ok (Item form) → AllFit ts → ItemFits form
+sentence_fits : (linked : Bool) (line : List ℕ) (ts : List Lexeme) (form : ItemForm) → sentence_of linked line ts ≡ Ok (Item form) → AllFit ts →
+    ItemFits linked form
 unfolding sentence_of
-sentence_fits line [] form e fit = absurd cc
-sentence_fits line (lexemes.Word (words.Block n) t ∷ lexemes.Colon ∷ ts) form e fit = absurd (labelled_no_item n (Some (lexemes.Colon ∷ ts)) form e)
-sentence_fits line (lexemes.Word (words.Block n) t ∷ lexemes.Open ∷ ts) form e fit = absurd (labelled_no_item n (behind_bracket 0 ts) form e)
-sentence_fits line (t ∷ ts) form e fit = item_fits line (t ∷ ts) form (as_item_some (item_of line (t ∷ ts)) form e) fit
+sentence_fits linked line [] form e fit = absurd cc
+sentence_fits linked line (lexemes.Word (words.Block n) t ∷ lexemes.Colon ∷ ts) form e fit = absurd (labelled_no_item n (Some (lexemes.Colon ∷ ts)) form e)
+sentence_fits linked line (lexemes.Word (words.Block n) t ∷ lexemes.Open ∷ ts) form e fit = absurd (labelled_no_item n (behind_bracket 0 ts) form e)
+sentence_fits linked line (t ∷ ts) form e fit = item_fits linked line (t ∷ ts) form (as_item_some (item_of linked line (t ∷ ts)) form e) fit
 
-tokens_fit : (line : List ℕ) (read : Result (List Token) LexError) (form : ItemForm) → line_of_tokens line read ≡ Ok (Item form) → ItemFits form
-tokens_fit line (Ok ts) form e = sentence_fits line (lexemes_of line ts) form e (lexemes_fit line ts)
-tokens_fit line (Err (lex.BadByte at)) form e = absurd cc
-tokens_fit line (Err (lex.UnclosedString at)) form e = absurd cc
-tokens_fit line (Err lex.Memory) form e = absurd cc
+tokens_fit : (linked : Bool) (line : List ℕ) (read : Result (List Token) LexError) (form : ItemForm) → line_of_tokens linked line read ≡ Ok (Item form) →
+    ItemFits linked form
+tokens_fit linked line (Ok ts) form e = sentence_fits linked line (lexemes_of line ts) form e (lexemes_fit line ts)
+tokens_fit linked line (Err (lex.BadByte at)) form e = absurd cc
+tokens_fit linked line (Err (lex.UnclosedString at)) form e = absurd cc
+tokens_fit linked line (Err lex.Memory) form e = absurd cc
+
+-- a line that lists something is no item
+pub listing_no_item : (b : Bool) (form : ItemForm) → ◌≡◌ {A = Result BodyLine FormError} (Ok (cond b Closed Passed)) (Ok (Item form)) → ⊥
+listing_no_item true form e = cc
+listing_no_item false form e = cc
 
 -- the form of an item's line
-pub line_fits : (text : List ℕ) (form : ItemForm) → body_line_of text ≡ Ok (Item form) → ItemFits form
+pub line_fits : (linked : Bool) (text : List ℕ) (form : ItemForm) → body_line_of linked text ≡ Ok (Item form) → ItemFits linked form
 unfolding body_line_of
-line_fits text form e = tokens_fit (code_of text) (tokens_of (code_of text)) form
-    (if_ok (is_listing text) (Ok Passed) (line_of_tokens (code_of text) (tokens_of (code_of text))) (Ok (Item form)) e passed_no_item) where
-      passed_no_item : ◌≡◌ {A = Result BodyLine FormError} (Ok Passed) (Ok (Item form)) → ⊥
-      passed_no_item e = cc
+line_fits linked text form e = tokens_fit linked (code_of text) (tokens_of (code_of text)) form
+    (if_ok (is_listing text) (Ok (listing_of linked text)) (line_of_tokens linked (code_of text) (tokens_of (code_of text))) (Ok (Item form)) e
+    (listing_no_item (linked && closes_block text) form))

@@ -1,8 +1,9 @@
 -- What a line of an item says of the item, where nothing refuses it.
-use Rattle.read_item.proofs.Named.{code_is_read}
-use Rattle.std.proofs.Common.{◌≡◌, Bool, true, false, cond, not, ◌||◌, List, Option, Some, None, Result, Ok, Err, refl, sym, ap, subst, ◌∙◌}
+use Rattle.read_item.proofs.Named.{code_is_read, address_is_linked}
+use Rattle.std.proofs.Common.{◌≡◌, ◌⊎◌, inl, inr, ℕ, Bool, true, false, cond, not, ◌&&◌, ◌||◌, List, [], Option, Some, None, Result, Ok, Err}
+use Rattle.std.proofs.Common.{refl, sym, ap, subst, ◌∙◌}
 use Rattle.std.specs.List.{list_any, zip}
-use Rattle.std.proofs.lemmas.Bool.{or_parts, not-false}
+use Rattle.std.proofs.lemmas.Bool.{or_parts, and_parts, not-false, false≢true}
 use Rattle.read_refusal.specs.declared.kind.RefusalKind.{RefusalKind}
 use Rattle.read_refusal.specs.declared.kind.RefusalKind.TheVariants as kinds
 use Rattle.rv64_instr.specs.declared.op.Op.{Op}
@@ -18,12 +19,15 @@ use Rattle.read_item.specs.declared.judged.JudgedItem.{JudgedItem}
 use Rattle.read_item.specs.declared.opcode.DebugOpcode.{DebugOpcode}
 use Rattle.read_item.specs.declared.opcode.Opcode.{Opcode}
 use Rattle.read_item.specs.declared.opcode.Opcode.TheVariants as opcodes
-use Rattle.read_item.specs.Opcode.{opcode_of, is_read}
+use Rattle.read_item.specs.Opcode.{opcode_of, returning, is_read}
+use Rattle.read_item.specs.Address.{address_operands, halves_in, address_rules, halves_unless, address_of}
 use Rattle.read_item.specs.Code.{refusal_by, operands_of, places_of, fits, is_refused_virtual, is_refused_operand, is_pointer, is_pointer_operand}
+use Rattle.read_item.specs.Code.{has_register_callee, begins_with_virtual, names_refused}
 use Rattle.read_item.specs.Code.{is_misplaced, is_long, code_rules}
 use Rattle.read_item.specs.Code.{instruction, unless_refused, code_of}
 use Rattle.read_item.specs.Debug.{debug_kind, is_empty, debug_rules, kind_unless, debug_of}
-use Rattle.read_item.specs.Judge.{entries_of, numbered, item_of, passed_if, judged_by, judged}
+use Rattle.read_item.specs.declared.judged.Judged.{Judged}
+use Rattle.read_item.specs.Judge.{entries_of, numbered, item_of, two_of, passed_if, judged_by, judged}
 use Rattle.std.specs.Prelude.{is_none}
 
 -- ---- rules
@@ -85,12 +89,13 @@ pub code_line : (op : Op) (line : ItemForm) (instr : Instruction) → code_of op
 unfolding code_of
 code_line op line instr e =
     let read = unless_refused_ok (refusal_by (code_rules op line)) (instruction op (operands_of op line)) instr e in
-    let rules = five_kept (line.exceeds || not (fits op (operands_of op line)))
-    (list_any is_refused_virtual line.definitions || list_any is_refused_operand line.operands)
+    let rules = five_kept (line.exceeds || not (fits op (operands_of op line))) (names_refused op line)
     (list_any is_pointer line.definitions || list_any is_pointer_operand line.operands) (list_any is_misplaced (zip (places_of op line) line.operands))
     (is_long line) kinds.BadOperands kinds.VirtualRegister kinds.StackPointerUse kinds.StackObject kinds.TooMany read.0 in
     let parts = or_parts line.exceeds (not (fits op (operands_of op line))) rules.0 in
-    code_line_by op line instr (operands_of op line) refl (not-false (fits op (operands_of op line)) parts.1) read.1 parts.0 rules.1 rules.2 rules.3 rules.4
+    code_line_by op line instr (operands_of op line) refl (not-false (fits op (operands_of op line)) parts.1) read.1 parts.0
+    (or_parts (list_any is_refused_virtual line.definitions || list_any is_refused_operand line.operands)
+    (has_register_callee op && begins_with_virtual line.operands) rules.1).0 rules.2 rules.3 rules.4
 
 -- ---- debug lines
 
@@ -112,52 +117,148 @@ debug_line op meta line kind e =
     kinds.BadOperands kinds.BadOperands kinds.BadOperands kinds.BadOperands kinds.TooMany read.0 in
     record { kind_is = read.1; within = rules.0 }
 
+-- ---- two instructions of an address
+
+-- a line of `PseudoMovAddr` that no rule refuses, and its instructions
+pub record IsAddressLine (line : ItemForm) (p : Instruction × Instruction) : Type 0 where
+  pub halves : halves_in (address_operands line) ≡ Some p
+  pub within : line.exceeds ≡ false
+  pub set_others : list_any is_pointer line.definitions ≡ false
+  pub used_others : list_any is_pointer_operand line.operands ≡ false
+  pub short : is_long line ≡ false
+
+halves_unless_ok : (refusal : Option RefusalKind) (halves : Option (Instruction × Instruction)) (p : Instruction × Instruction) →
+    halves_unless refusal halves ≡ Ok p → (refusal ≡ None) × (halves ≡ Some p)
+halves_unless_ok (Some refusal) halves p e = absurd cc
+halves_unless_ok None (Some halves) p e = (refl, cc)
+halves_unless_ok None None p e = absurd cc
+
+-- all of four rules are kept
+four_kept : (a b c d : Bool) (j k l m : RefusalKind) → cond a (Some j) (cond b (Some k) (cond c (Some l) (cond d (Some m) None))) ≡ None →
+    (a ≡ false) × (b ≡ false) × (c ≡ false) × (d ≡ false)
+four_kept a b c d j k l m e =
+    let one = kept a j (cond b (Some k) (cond c (Some l) (cond d (Some m) None))) e in
+    let two = kept b k (cond c (Some l) (cond d (Some m) None)) one.1 in
+    let three = kept c l (cond d (Some m) None) two.1 in
+    (one.0, two.0, three.0, (kept d m None three.1).0)
+
+pub address_line : (line : ItemForm) (p : Instruction × Instruction) → address_of line ≡ Ok p → IsAddressLine line p
+unfolding address_of
+address_line line p e =
+    let read = halves_unless_ok (refusal_by (address_rules line)) (halves_in (address_operands line)) p e in
+    let rules = four_kept (line.exceeds || is_none (halves_in (address_operands line)))
+    (list_any is_refused_virtual line.definitions || list_any is_refused_operand line.operands)
+    (list_any is_pointer line.definitions || list_any is_pointer_operand line.operands) (is_long line) kinds.BadOperands kinds.VirtualRegister
+    kinds.StackPointerUse kinds.TooMany read.0 in
+    let others = or_parts (list_any is_pointer line.definitions) (list_any is_pointer_operand line.operands) rules.2 in
+    record {
+      halves = read.1;
+      within = (or_parts line.exceeds (is_none (halves_in (address_operands line))) rules.0).0;
+      set_others = others.0;
+      used_others = others.1;
+      short = rules.3;
+    }
+
 -- ---- items
 
--- an item is of a line of code, or of a debug line
-pub data IsItemLine (meta : Maps) (line : ItemForm) : ItemKind → Type 0 where
-  of_code : {op : Op} {instr : Instruction} → is_read op ≡ true → IsCodeLine op line instr → IsItemLine meta line (Code instr line.number)
-  of_debug : {op : DebugOpcode} {kind : ItemKind} → IsDebugLine op meta line kind → IsItemLine meta line kind
+-- an item that names these stack entries is of a line of code, of a debug line, or one of the two of a line of `PseudoMovAddr`
+pub data IsItemLine (linked : Bool) (meta : Maps) (line : ItemForm) (entries : List ℕ) : ItemKind → Type 0 where
+  of_code : {op : Op} {instr : Instruction} → entries ≡ entries_of line.operands → is_read linked op ≡ true → IsCodeLine op line instr →
+      IsItemLine linked meta line entries (Code instr line.number)
+  of_debug : {op : DebugOpcode} {kind : ItemKind} → entries ≡ entries_of line.operands → IsDebugLine op meta line kind →
+      IsItemLine linked meta line entries kind
+  of_upper : {p : Instruction × Instruction} → linked ≡ true → IsAddressLine line p → IsItemLine linked meta line entries (Code p.0 None)
+  of_lower : {p : Instruction × Instruction} → linked ≡ true → IsAddressLine line p → IsItemLine linked meta line entries (Code p.1 line.number)
 
-item_ok : (line : ItemForm) (kind : Result ItemKind RefusalKind) (j : JudgedItem) → item_of line kind ≡ Ok (judged_as.Item j) →
-    (kind ≡ Ok j.kind) × (j.loc ≡ line.loc) × (j.entries ≡ entries_of line.operands)
-item_ok line (Err refusal) j e = absurd cc
-item_ok line (Ok kind) j e =
-    let same : record { kind = kind; loc = line.loc; entries = entries_of line.operands } ≡ j = cc in (
-      ap (λ (i : JudgedItem). Ok i.kind) same,
-      ap (λ (i : JudgedItem). i.loc) (sym same),
-      ap (λ (i : JudgedItem). i.entries) (sym same),
-    )
+-- an item is the one, or one of the two, that a line is judged to be
+abbrev pub Judges : Result Judged RefusalKind → JudgedItem → Type 0
+Judges (Ok judged_as.Passed) j = ⊥
+Judges (Ok (judged_as.Item i)) j = i ≡ j
+Judges (Ok (judged_as.Two first second)) j = (first ≡ j) ⊎ (second ≡ j)
+Judges (Err refusal) j = ⊥
 
-pub record IsJudged (meta : Maps) (line : ItemForm) (j : JudgedItem) : Type 0 where
-  pub line_is : IsItemLine meta line j.kind
+pub record IsJudged (linked : Bool) (meta : Maps) (line : ItemForm) (j : JudgedItem) : Type 0 where
+  pub line_is : IsItemLine linked meta line j.entries j.kind
   pub loc : j.loc ≡ line.loc
-  pub entries : j.entries ≡ entries_of line.operands
 
-code_item : (meta : Maps) (op : Op) (line : ItemForm) (kind : ItemKind) (read : Result Instruction RefusalKind) → code_of op line ≡ read →
-    numbered line.number read ≡ Ok kind → is_read op ≡ true → IsItemLine meta line kind
-code_item meta op line kind (Ok instr) is e may = let same : Code instr line.number ≡ kind = cc in subst (IsItemLine meta line) same (of_code may
-    (code_line op line instr is))
-code_item meta op line kind (Err refusal) is e may = absurd cc
+code_item : (linked : Bool) (meta : Maps) (op : Op) (line : ItemForm) (j : JudgedItem) (read : Result Instruction RefusalKind) → code_of op line ≡ read →
+    is_read linked op ≡ true → Judges (item_of line (numbered line.number read)) j → IsJudged linked meta line j
+code_item linked meta op line j (Ok instr) is may said =
+    subst (IsJudged linked meta line) said (record { line_is = of_code refl may (code_line op line instr is); loc = refl })
+code_item linked meta op line j (Err refusal) is may said = absurd said
 
-not_item : (b : Bool) (j : JudgedItem) → passed_if b ≡ Ok (judged_as.Item j) → ⊥
-not_item true j e = cc
-not_item false j e = cc
+debug_item : (linked : Bool) (meta : Maps) (op : DebugOpcode) (line : ItemForm) (j : JudgedItem) (read : Result ItemKind RefusalKind) →
+    debug_of op meta line ≡ read → Judges (item_of line read) j → IsJudged linked meta line j
+debug_item linked meta op line j (Ok kind) is said =
+    subst (IsJudged linked meta line) said (record { line_is = of_debug refl (debug_line op meta line kind is); loc = refl })
+debug_item linked meta op line j (Err refusal) is said = absurd said
 
-judged_line_by : (meta : Maps) (line : ItemForm) (j : JudgedItem) (op : Option Opcode) →
-    ((x : Op) → op ≡ Some (opcodes.Code x) → is_read x ≡ true) → judged_by op meta line ≡ Ok (judged_as.Item j) → IsJudged meta line j
-judged_line_by meta line j None may e = absurd cc
-judged_line_by meta line j (Some (opcodes.Code op)) may e =
-    let read = item_ok line (numbered line.number (code_of op line)) j e in
-    record { line_is = code_item meta op line j.kind (code_of op line) refl read.0 (may op refl); loc = read.1; entries = read.2 }
-judged_line_by meta line j (Some (opcodes.Debug op)) may e =
-    let read = item_ok line (debug_of op meta line) j e in
-    record { line_is = of_debug (debug_line op meta line j.kind read.0); loc = read.1; entries = read.2 }
-judged_line_by meta line j (Some opcodes.Label) may e = absurd (not_item _ j e)
-judged_line_by meta line j (Some opcodes.Pseudo) may e = absurd cc
-judged_line_by meta line j (Some opcodes.CallFrame) may e = absurd (not_item _ j e)
+address_item : (linked : Bool) (meta : Maps) (line : ItemForm) (j : JudgedItem) (read : Result (Instruction × Instruction) RefusalKind) →
+    address_of line ≡ read → linked ≡ true → Judges (two_of line read) j → IsJudged linked meta line j
+address_item linked meta line j (Ok p) is may said =
+    let here = address_line line p is in
+    elim said [
+      | inl first ↦ subst (IsJudged linked meta line) first (record { line_is = of_upper may here; loc = refl })
+      | inr second ↦ subst (IsJudged linked meta line) second (record { line_is = of_lower may here; loc = refl })
+    ]
+address_item linked meta line j (Err refusal) is may said = absurd said
 
--- what a line that is judged an item says of it
-pub judged_line : (meta : Maps) (line : ItemForm) (j : JudgedItem) → judged meta line ≡ Ok (judged_as.Item j) → IsJudged meta line j
+no_item : (b : Bool) (j : JudgedItem) → Judges (passed_if b) j → ⊥
+no_item true j said = said
+no_item false j said = said
+
+judged_line_by : (linked : Bool) (meta : Maps) (line : ItemForm) (j : JudgedItem) (op : Option Opcode) →
+    ((x : Op) → op ≡ Some (opcodes.Code x) → is_read linked (returning linked line.no_return x) ≡ true) → (op ≡ Some opcodes.Address → linked ≡ true) →
+    Judges (judged_by linked op meta line) j → IsJudged linked meta line j
+judged_line_by linked meta line j None may there said = absurd said
+judged_line_by linked meta line j (Some (opcodes.Code op)) may there said =
+    code_item linked meta (returning linked line.no_return op) line j (code_of (returning linked line.no_return op) line) refl (may op refl) said
+judged_line_by linked meta line j (Some opcodes.Address) may there said = address_item linked meta line j (address_of line) refl (there refl) said
+judged_line_by linked meta line j (Some (opcodes.Debug op)) may there said = debug_item linked meta op line j (debug_of op meta line) refl said
+judged_line_by linked meta line j (Some opcodes.Label) may there said = absurd (no_item _ j said)
+judged_line_by linked meta line j (Some opcodes.Pseudo) may there said = absurd said
+judged_line_by linked meta line j (Some opcodes.CallFrame) may there said = absurd (no_item _ j said)
+
+-- what a line says of an item that it is judged to be
+pub judged_line : (linked : Bool) (meta : Maps) (line : ItemForm) (j : JudgedItem) → Judges (judged linked meta line) j → IsJudged linked meta line j
 unfolding judged
-judged_line meta line j e = judged_line_by meta line j (opcode_of line.opcode) (λ op is. code_is_read line.opcode op is) e
+judged_line linked meta line j said =
+    judged_line_by linked meta line j (opcode_of linked line.opcode) (λ op is. code_is_read linked line.no_return line.opcode op is)
+    (λ is. address_is_linked linked line.opcode is) said
+
+-- ---- lines that are two instructions
+
+no_two_items : (line : ItemForm) (first second : JudgedItem) (read : Result ItemKind RefusalKind) → item_of line read ≡ Ok (judged_as.Two first second) → ⊥
+no_two_items line first second (Ok kind) e = cc
+no_two_items line first second (Err refusal) e = cc
+
+none_passed : (first second : JudgedItem) (b : Bool) → passed_if b ≡ Ok (judged_as.Two first second) → ⊥
+none_passed first second true e = cc
+none_passed first second false e = cc
+
+two_by : (linked : Bool) (meta : Maps) (line : ItemForm) (first second : JudgedItem) (op : Option Opcode) →
+    (op ≡ Some opcodes.Address → linked ≡ true) → judged_by linked op meta line ≡ Ok (judged_as.Two first second) → linked ≡ true
+two_by linked meta line first second None there e = absurd cc
+two_by linked meta line first second (Some (opcodes.Code op)) there e =
+    absurd (no_two_items line first second (numbered line.number (code_of (returning linked line.no_return op) line)) e)
+two_by linked meta line first second (Some opcodes.Address) there e = there refl
+two_by linked meta line first second (Some (opcodes.Debug op)) there e = absurd (no_two_items line first second (debug_of op meta line) e)
+two_by linked meta line first second (Some opcodes.Label) there e = absurd (none_passed first second _ e)
+two_by linked meta line first second (Some opcodes.Pseudo) there e = absurd cc
+two_by linked meta line first second (Some opcodes.CallFrame) there e = absurd (none_passed first second _ e)
+
+-- the linked language alone has them
+pub two_is_linked : (linked : Bool) (meta : Maps) (line : ItemForm) (first second : JudgedItem) →
+    judged linked meta line ≡ Ok (judged_as.Two first second) → linked ≡ true
+unfolding judged
+two_is_linked linked meta line first second e =
+    two_by linked meta line first second (opcode_of linked line.opcode) (λ is. address_is_linked linked line.opcode is) e
+
+-- elsewhere an item is the only one of its line
+pub judges_one : (meta : Maps) (line : ItemForm) (j : JudgedItem) → Judges (judged false meta line) j → judged false meta line ≡ Ok (judged_as.Item j)
+judges_one meta line j said = by (judged false meta line) refl said where
+  by : (read : Result Judged RefusalKind) → judged false meta line ≡ read → Judges read j → read ≡ Ok (judged_as.Item j)
+  by (Ok judged_as.Passed) is said = absurd said
+  by (Ok (judged_as.Item i)) is said = ap (λ (x : JudgedItem). Ok (judged_as.Item x)) said
+  by (Ok (judged_as.Two first second)) is said = absurd (false≢true (two_is_linked false meta line first second is))
+  by (Err refusal) is said = absurd said

@@ -17,10 +17,10 @@ use Rattle.read_token.specs.declared.lexeme.Number.{Number}
 use Rattle.read_token.specs.declared.lexeme.Number.TheVariants.{Fits, Large, Wide}
 use Rattle.read_token.specs.declared.lexeme.RegisterName.{RegisterName}
 use Rattle.read_token.specs.declared.lexeme.RegisterName.TheVariants.{Physical, Absent, Other, Virtual}
-use Rattle.read_token.specs.Number.{narrow_value, unsigned, negated, sized, unsigned_of, number_of}
+use Rattle.read_token.specs.Number.{narrow_value, is_number, unsigned, negated, sized, unsigned_of, number_of}
 use Rattle.read_token.specs.Word.{case_of, named_number}
-use Rattle.read_token.specs.Register.{two_digits, physical_of, register_of, is_number, virtual_of, slot_of, block_operand_of, behind_stack, behind_bb}
-use Rattle.read_token.specs.Register.{percent_behind, percent_of}
+use Rattle.read_token.specs.Register.{two_digits, physical_of, register_of, virtual_of, slot_of, block_operand_of, fixed_of, constant_of, behind_stack}
+use Rattle.read_token.specs.Register.{behind_bb, behind_fixed, behind_const, numbered_of, percent_behind, percent_of}
 use Rattle.read_token.specs.Sentence.{kind_of, single_of, lexeme_by, lexeme_of, lexemes_of}
 
 abbrev pub NameFits : RegisterName → Type 0
@@ -97,10 +97,12 @@ register_fits text = register_fits_by (physical_of text) (bytes_eq text (codes "
 
 percent_behind_fits : (text : List ℕ) → LexemeFits (percent_behind text)
 unfolding percent_behind
-percent_behind_fits text = case_fits (behind_stack text) slot_of (case_of (behind_bb text) block_operand_of (virtual_of text))
+percent_behind_fits text = case_fits (behind_stack text) slot_of (case_of (behind_bb text) block_operand_of (numbered_of text))
     (λ t. number_case_fits (named_number t) lexemes.Slot lexemes.Other (λ n. tt) tt)
-    (case_fits (behind_bb text) block_operand_of (virtual_of text) (λ t. number_case_fits (named_number t) lexemes.Block lexemes.Other (λ n. tt) tt)
-    (one_fits (is_number text) _ lexemes.Other tt tt))
+    (case_fits (behind_bb text) block_operand_of (numbered_of text) (λ t. number_case_fits (named_number t) lexemes.Block lexemes.Other (λ n. tt) tt)
+    (case_fits (behind_fixed text) fixed_of (case_of (behind_const text) constant_of (virtual_of text)) (λ t. one_fits (is_number t) _ lexemes.Other tt tt)
+    (case_fits (behind_const text) constant_of (virtual_of text) (λ t. one_fits (is_number t) _ lexemes.Other tt tt)
+    (one_fits (is_number text) _ lexemes.Other tt tt))))
 
 percent_fits : (text : List ℕ) → LexemeFits (percent_of text)
 percent_fits [] = tt
@@ -142,7 +144,8 @@ kind_fits text = one_fits (bytes_eq text (codes "!DIExpression")) lexemes.Expres
 
 single_fits : (byte : ℕ) → LexemeFits (single_of byte)
 single_fits byte = one_fits (eqb byte 44) lexemes.Comma _ tt (one_fits (eqb byte 61) lexemes.Equals _ tt
-    (one_fits (eqb byte 40) lexemes.Open _ tt (one_fits (eqb byte 41) lexemes.Close _ tt (one_fits (eqb byte 58) lexemes.Colon lexemes.Other tt tt))))
+    (one_fits (eqb byte 40) lexemes.Open _ tt (one_fits (eqb byte 41) lexemes.Close _ tt (one_fits (eqb byte 58) lexemes.Colon _ tt
+    (one_fits (eqb byte 43) lexemes.Plus _ tt (one_fits (eqb byte 45) lexemes.Minus lexemes.Other tt tt))))))
 
 lexeme_by_fits : (class : Class) (t : Token) (text : List ℕ) → LexemeFits (lexeme_by class t text)
 lexeme_by_fits classes.Word t text = tt

@@ -2,7 +2,7 @@
 use Rattle.std.proofs.Common.{◌≡◌, ℕ, ◌<◌, ◌≤◌, Bool, true, false, cond, ◌&&◌, ◌||◌, eqb, List, length, All, Option, Some, None, Result, Ok, Err}
 use Rattle.std.proofs.Common.{refl, sym, ap, subst, ◌∙◌, arith}
 use Rattle.std.specs.Prelude.{Contains, is_some, IfOk}
-use Rattle.std.proofs.lemmas.Bool.{eqb-true}
+use Rattle.std.proofs.lemmas.Bool.{eqb-true, and_parts, and_from}
 use Rattle.std.proofs.lemmas.List.{length-map}
 use Rattle.std.proofs.lemmas.List.Elements.{All-map, All-weaker}
 use Rattle.read_refusal.specs.declared.kind.RefusalKind.{RefusalKind}
@@ -30,13 +30,14 @@ use Rattle.read_program.specs.declared.closing.Parts.{Parts}
 use Rattle.read_program.specs.declared.error.ParseError.TheVariants as errors
 use Rattle.read_program.specs.BodyLines.{body_of}
 use Rattle.read_program.specs.Objects.{item_as, block_as, blocks_as}
+use Rattle.read_program.specs.Pool.{are_known}
 use Rattle.read_program.specs.Closing.{entry_ids, AreEntries, laid_out, stays, parts_of, closing_cause, function_of, EndWell, ClosesWith, Closes}
-use Rattle.read_program.proofs.Bodies.{IsReadBlock, IsReadBody, ComesFromLine, body_reads}
+use Rattle.read_program.proofs.Bodies.{IsReadBlock, IsReadBody}
+use Rattle.read_program.proofs.Comes.{EndsFromLine, body_reads}
 use Rattle.read_program.proofs.Entries.{declared_if_met}
-use Rattle.read_program.proofs.Forms.{line_fits}
 use Rattle.read_program.proofs.Frames.{slots_apart, objects_apart, frame_count, objects_sound, objects_laid}
-use Rattle.read_program.proofs.Items.{IsReadItem, item_reads}
-use Rattle.read_program.proofs.Judged.{judged_line}
+use Rattle.read_program.proofs.Items.{IsReadItem}
+use Rattle.read_program.proofs.Keeps.{keeps_item}
 use Rattle.read_program.proofs.Lists.{both, met_contains}
 use Rattle.read_program.proofs.Renamed.{ids_as, blocks_kept}
 use Rattle.read_program.proofs.Sound.{targets_as, slots_as, first_as, pointer_as, all_objects_in, once_as, origins_in, all_go}
@@ -82,24 +83,27 @@ closes_all d body none = by (blocks_go_to body.ids (blocks_of body)) (all_met (e
   parts : Option Parts
   parts = parts_of body.objects d.stack (blocks_of body)
 
-  made : (c : Bool) → is_some parts ≡ c → cond c None (Some StackObject) ≡ None → is_some parts ≡ true
-  made true is e = is
+  known : Bool
+  known = are_known d.pool (blocks_of body)
+
+  made : (c : Bool) → (known && is_some parts) ≡ c → cond c None (Some StackObject) ≡ None → is_some parts ≡ true
+  made true is e = (and_parts known (is_some parts) is).1
   made false is e = absurd cc
 
   by : (a b : Bool) → blocks_go_to body.ids (blocks_of body) ≡ a → all_met (entry_ids d.stack) body.entries ≡ b →
-      cond a (cond (b && is_some parts) None (Some StackObject)) (Some UnknownBlock) ≡ None → ClosesAll d body
+      cond a (cond (b && (known && is_some parts)) None (Some StackObject)) (Some UnknownBlock) ≡ None → ClosesAll d body
   by true true p q e = record {
     branches = p;
     entries = q;
     accesses = parts_some (stays (laid_out body.objects d.stack (blocks_of body))) (laid_out body.objects d.stack (blocks_of body)) (made
-        (is_some parts) refl e);
+        (known && is_some parts) refl e);
   }
   by true false p q e = absurd cc
   by false b p q e = absurd cc
 
 -- ---- functions
 
-module _ (meta : Maps) (d : Declarations) (body : Body) (is : IsReadBody (ComesFromLine meta body) body) (stack : IsReadStack d.stack)
+module _ (linked : Bool) (meta : Maps) (d : Declarations) (body : Body) (is : IsReadBody (EndsFromLine linked meta body) body) (stack : IsReadStack d.stack)
     (closes : ClosesAll d body) where
   abbrev ids : List ℕ
   ids = ids_of_objects body.objects d.stack
@@ -112,25 +116,18 @@ module _ (meta : Maps) (d : Declarations) (body : Body) (is : IsReadBody (ComesF
 
   -- an item as it was read, which goes on to blocks that are there
   record IsGood (i : Item) : Type 0 where
-    item : IsReadItem meta body.entries i.kind i.loc
+    item : IsReadItem linked meta body.entries i.kind i.loc
     goes : item_goes_to body.ids i ≡ true
 
-  item_good : (i : Item) → ComesFromLine meta body i.kind i.loc × (item_goes_to body.ids i ≡ true) → IsGood i
-  item_good i from = record {
-    item =
-        let line = from.0 in
-        let read = item_reads meta body.entries line.form line.item (line_fits line.text line.form line.says)
-        (judged_line meta line.form line.item line.judged) line.entries in
-        subst (λ (l : Loc). IsReadItem meta body.entries i.kind l) line.loc_is (subst (λ
-        (k : ItemKind). IsReadItem meta body.entries k line.item.loc) line.kind_is read);
-    goes = from.1;
-  }
+  item_good : (i : Item) → EndsFromLine linked meta body i.kind i.loc × (item_goes_to body.ids i ≡ true) → IsGood i
+  item_good i from = record { item = (keeps_item linked meta body i.kind i.loc from.0).item; goes = from.1 }
 
   good : AllItems IsGood bs
-  good = All-weaker (λ b. IsReadBlock (ComesFromLine meta body) b × All (λ i. item_goes_to body.ids i ≡ true) b.items) (λ (b : Block). All IsGood b.items)
-      (λ b each. All-weaker (λ i. ComesFromLine meta body i.kind i.loc × (item_goes_to body.ids i ≡ true)) IsGood item_good b.items
-      (both (λ i. ComesFromLine meta body i.kind i.loc) (λ i. item_goes_to body.ids i ≡ true) b.items each.0.each each.1)) bs
-      (both (IsReadBlock (ComesFromLine meta body)) (λ (b : Block). All (λ i. item_goes_to body.ids i ≡ true) b.items) bs is.blocks
+  good = All-weaker (λ b. IsReadBlock (EndsFromLine linked meta body) b × All (λ i. item_goes_to body.ids i ≡ true) b.items) (λ (b : Block). All IsGood
+      b.items)
+      (λ b each. All-weaker (λ i. EndsFromLine linked meta body i.kind i.loc × (item_goes_to body.ids i ≡ true)) IsGood item_good b.items
+      (both (λ i. EndsFromLine linked meta body i.kind i.loc) (λ i. item_goes_to body.ids i ≡ true) b.items each.0.each each.1)) bs
+      (both (IsReadBlock (EndsFromLine linked meta body)) (λ (b : Block). All (λ i. item_goes_to body.ids i ≡ true) b.items) bs is.blocks
       (all_go body.ids bs closes.branches))
 
   each_as : (P : Item → Type 0) → ((i : Item) → IsGood i → P (item_as ids i)) → AllItems P (blocks_as ids bs)
@@ -148,7 +145,7 @@ module _ (meta : Maps) (d : Declarations) (body : Body) (is : IsReadBody (ComesF
   Any kind loc = Unit {0}
 
   read_blocks : All (IsReadBlock Any) (blocks_as ids bs)
-  read_blocks = blocks_kept (ComesFromLine meta body) Any ids (λ k loc from. tt) bs is.blocks
+  read_blocks = blocks_kept (EndsFromLine linked meta body) Any ids (λ k loc from. tt) bs is.blocks
 
   function_sound : EndWell (blocks_as ids bs) → IsSound (function_of d body)
   function_sound ends = record {
@@ -175,10 +172,11 @@ module _ (meta : Maps) (d : Declarations) (body : Body) (is : IsReadBody (ComesF
 
 -- what a document says that was read, where nothing else is wrong at its close
 module _ (meta : Maps) (doc : FunctionDocument) (d : Declarations) (body : Body) (declared : declarations_of doc ≡ Ok d)
-    (read : body_of meta doc.body ≡ Ok body)
+    (read : body_of doc.linked meta doc.body ≡ Ok body)
     (none : closing_cause d body ≡ None) where
   pub sound_if_ends_well : EndWell (function_of d body).blocks → IsSound (function_of d body)
-  sound_if_ends_well = function_sound meta d body (body_reads meta doc.body body read) (declared_stack doc d declared) (closes_all d body none)
+  sound_if_ends_well =
+      function_sound doc.linked meta d body (body_reads doc.linked meta doc.body body read) (declared_stack doc d declared) (closes_all d body none)
 
   -- its function isn't sound: so its blocks don't end well
   pub ends_badly : (line : ℕ) → (IsSound (function_of d body) → ⊥) → Closes line d body (Err (errors.Refused (record { line = line; kind = BlockEnd })))
@@ -208,17 +206,18 @@ cause_none true false c p q r = absurd cc
 cause_none true true false p q r = absurd cc
 
 pub laid_by_parts : (d : Declarations) (body : Body) (blocks : List Block) (known : List ℕ) (made : Option Parts) (p : Parts) → blocks ≡ blocks_of body →
-    blocks_go_to body.ids blocks ≡ true → known ≡ entry_ids d.stack → all_met known body.entries ≡ true → made ≡ parts_of body.objects d.stack blocks →
-    made ≡ Some p → IsLaidOut d body p
-laid_by_parts d body blocks known made p same goes entries met parts is =
+    blocks_go_to body.ids blocks ≡ true → known ≡ entry_ids d.stack → all_met known body.entries ≡ true → are_known d.pool blocks ≡ true →
+    made ≡ parts_of body.objects d.stack blocks → made ≡ Some p → IsLaidOut d body p
+laid_by_parts d body blocks known made p same goes entries met pool parts is =
     let here : parts_of body.objects d.stack (blocks_of body) ≡ Some p =
     ap (parts_of body.objects d.stack) (sym same) ∙ sym parts ∙ is in
     let whole = parts_are (stays (laid_out body.objects d.stack (blocks_of body))) (laid_out body.objects d.stack (blocks_of body)) p here in
     record {
       none = cause_none (blocks_go_to body.ids (blocks_of body)) (all_met (entry_ids d.stack) body.entries)
-          (is_some (parts_of body.objects d.stack (blocks_of body)))
+          (are_known d.pool (blocks_of body) && is_some (parts_of body.objects d.stack (blocks_of body)))
           (ap (blocks_go_to body.ids) (sym same) ∙ goes) (ap (λ (l : List ℕ). all_met l body.entries) (sym entries) ∙ met)
-          (ap (λ (o : Option Parts). is_some o) here);
+          (and_from (are_known d.pool (blocks_of body)) (is_some (parts_of body.objects d.stack (blocks_of body)))
+          (ap (are_known d.pool) (sym same) ∙ pool) (ap (λ (o : Option Parts). is_some o) here));
       parts = whole.1;
     }
 
@@ -236,7 +235,7 @@ close_well line d body p f is made sound =
     ends_well line d body (record { func = f; subs = d.substitutions }) is.none (subst IsSound same sound) same refl
 
 pub close_badly : (meta : Maps) (doc : FunctionDocument) (line : ℕ) (d : Declarations) (body : Body) (p : Parts) → declarations_of doc ≡ Ok d →
-    body_of meta doc.body ≡ Ok body → IsLaidOut d body p → (IsSound (made_of d.name p) → ⊥) →
+    body_of doc.linked meta doc.body ≡ Ok body → IsLaidOut d body p → (IsSound (made_of d.name p) → ⊥) →
     Closes line d body (Err (errors.Refused (record { line = line; kind = BlockEnd })))
 close_badly meta doc line d body p declared read is unsound =
     ends_badly meta doc d body declared read is.none line (λ sound. unsound (subst IsSound (sym (made_is d body p is)) sound))

@@ -33,6 +33,7 @@ use Rattle.read_declarations.specs.Stack.{is_alignment, entry_with, unsized, sta
 use Rattle.read_declarations.specs.Stack.{entry_offsets, without_offset, shared, stack_behind, stack_read, stack_of}
 use Rattle.read_declarations.specs.Stream.{text_at}
 use Rattle.read_declarations.specs.Substitutions.{substitutions_of}
+use Rattle.read_declarations.specs.Constants.{pool_of}
 use Rattle.read_program.proofs.Lists.{apart_push}
 
 pub record IsReadEntry (e : StackEntry) : Type 0 where
@@ -238,8 +239,10 @@ checked_ok (Some r) declared d e = absurd cc
 pub declared_stack : (doc : FunctionDocument) (d : Declarations) → declarations_of doc ≡ Ok d → IsReadStack d.stack
 declared_stack doc d e =
     let is = checked_ok (refusal_of doc) (declared_of doc) d e in
+    let all = earlier_none (earlier (earlier (name_of doc.name).refused (stack_of doc.stack).refused)
+    (earlier (fixed_refusal doc.fixed) (substitutions_of doc.substitutions).refused)) (pool_of doc.linked doc.constants).refused is.0 in
     let first = earlier_none (earlier (name_of doc.name).refused (stack_of doc.stack).refused)
-    (earlier (fixed_refusal doc.fixed) (substitutions_of doc.substitutions).refused) is.0 in
+    (earlier (fixed_refusal doc.fixed) (substitutions_of doc.substitutions).refused) all.0 in
     let none = (earlier_none (name_of doc.name).refused (stack_of doc.stack).refused first.0).1 in
     subst (λ (x : Declarations). IsReadStack x.stack) is.1 (shared_reads (stack_read doc.stack).entries
     (stack_reads doc.stack (record { entries = []; refused = (list_of doc.stack).refused })

@@ -23,6 +23,7 @@ use Rattle.read_program.specs.declared.closing.Parsed.{Parsed}
 use Rattle.read_program.specs.declared.error.ParseError.{ParseError}
 use Rattle.read_program.specs.declared.error.ParseError.TheVariants as errors
 use Rattle.read_program.specs.Objects.{blocks_as, blocks_stay}
+use Rattle.read_program.specs.Pool.{are_known}
 use Rattle.read_program.specs.BodyLines.{body_of}
 
 -- a set of numbers after adding those of these stack entries
@@ -54,12 +55,13 @@ stays parts = blocks_stay parts.objects parts.blocks
 abbrev pub parts_of : List ℕ → List StackEntry → List Block → Option Parts
 parts_of named es blocks = if stays (laid_out named es blocks) then Some (laid_out named es blocks) else None
 
--- Why a function is refused at its closing line: a branch to a block that it doesn't have, else a `%stack.N` that isn't declared or an access outside its
--- object.
+-- Why a function is refused at its closing line: a branch to a block that it doesn't have, else a `%stack.N` or `%const.N` that isn't declared or an access
+-- outside its object.
 abbrev pub closing_cause : Declarations → Body → Option RefusalKind
 closing_cause d body =
     if blocks_go_to body.ids (blocks_of body)
-    then (if all_met (entry_ids d.stack) body.entries && is_some (parts_of body.objects d.stack (blocks_of body)) then None else Some StackObject)
+    then (if all_met (entry_ids d.stack) body.entries && (are_known d.pool (blocks_of body) &&
+    is_some (parts_of body.objects d.stack (blocks_of body))) then None else Some StackObject)
     else Some UnknownBlock
 
 -- the function with these declarations and this body
@@ -103,4 +105,4 @@ ParsesParts line (Err r) (Err s) answer = IsRefused (if comes_before s r then s 
 -- What a call returns for a function's document, given the metadata of its text: the function with its substitutions, or its first refusal. That is the
 -- first of its declarations and body lines, and if there is none, that of the closing line.
 abbrev pub Parses : Maps → FunctionDocument → Result Parsed ParseError → Type 0
-Parses meta doc answer = ParsesParts doc.closed (declarations_of doc) (body_of meta doc.body) answer
+Parses meta doc answer = ParsesParts doc.closed (declarations_of doc) (body_of doc.linked meta doc.body) answer

@@ -1,10 +1,13 @@
 -- The limits on the numbers in an item that was read.
-use Rattle.std.specs.Prelude.{◌≡◌, pos, ◌<◌, ◌≤◌, IfSome, IsTrue, All, Option, Some, None}
+use Rattle.std.specs.Prelude.{◌≡◌, pos, negsuc, Bool, true, ◌<◌, ◌≤◌, IfSome, IsTrue, All, Option, Some, None}
 use Rattle.rv64_instr.specs.declared.operand.Operand.{Operand}
 use Rattle.rv64_instr.specs.declared.operand.Operand.TheVariants.{Def, Use, ImplicitDef, ImplicitUse, Imm, Slot, Object, Part, Outgoing, Block, Symbol, Mask}
 use Rattle.rv64_instr.specs.declared.place.Place.{Place}
 use Rattle.rv64_instr.specs.declared.place.Place.TheVariants as place
-use Rattle.rv64_instr.specs.Form.{IsSigned}
+use Rattle.rv64_instr.specs.declared.symbol.Symbol.{Symbol as Linked}
+use Rattle.rv64_instr.specs.declared.symbol.Symbol.TheVariants.{Global, Constant as PoolConstant}
+use Rattle.rv64_instr.specs.declared.symbol.LinkedAddress.{LinkedAddress}
+use Rattle.rv64_instr.specs.Form.{IsSigned, is_within}
 use Rattle.mir_func.specs.declared.item.ItemKind.{ItemKind}
 use Rattle.mir_func.specs.declared.item.ItemKind.TheVariants.{Code, Mark, Phi}
 use Rattle.mir_func.specs.declared.location.Loc.{Loc}
@@ -19,7 +22,18 @@ use Rattle.read_item.specs.Opcode.{is_read}
 -- ---- the numbers of items: a number or count is at most 2^30 - 1, a register is one of x0 to x31 or, unless it is implicit, of `%0` to `%4095`, and other
 -- integers have 64 bits
 
--- an operand: a register, which is physical if it is implicit, an immediate of 64 bits signed, or a stack entry or block with a number within the limit
+-- a symbol: the number of a constant of the pool is within the limit
+abbrev pub SymbolIsLimited : Linked → Type 0
+SymbolIsLimited (Global name) = Unit {0}
+SymbolIsLimited (PoolConstant n) = n ≤ MAX_NUMBER
+
+-- an address: what is added to the symbol's fits 32 bits signed
+pub record AddressIsLimited (y : LinkedAddress) : Type 0 where
+  pub symbol : SymbolIsLimited y.symbol
+  pub addend : IsTrue (is_within (negsuc 2147483647) (pos 2147483647) y.addend)
+
+-- an operand: a register, which is physical if it is implicit, an immediate of 64 bits signed, a stack entry or block with a number within the limit, or a half
+-- of an address
 abbrev pub IsLimited : Operand → Type 0
 IsLimited (Def r) = r < 4128
 IsLimited (Use r) = r < 4128
@@ -28,7 +42,7 @@ IsLimited (ImplicitUse r) = r < 32
 IsLimited (Imm i) = IsSigned i
 IsLimited (Slot n) = n ≤ MAX_NUMBER
 IsLimited (Object n) = n ≤ MAX_NUMBER
-IsLimited (Part half y) = ⊥
+IsLimited (Part half y) = AddressIsLimited y
 IsLimited (Outgoing n) = ⊥
 IsLimited (Block n) = n ≤ MAX_NUMBER
 IsLimited (Symbol name) = Unit {0}
@@ -52,9 +66,9 @@ PlaceIsLimited (Some (place.Const c)) = c ≡ pos 0
 abbrev pub VariableIsLimited : VarId → Type 0
 VariableIsLimited v = (v.node ≤ MAX_NUMBER) × IfSome v.fragment IsPart
 
--- the numbers of an item, the debug instruction number included, but not those of its debug location; and code's opcode is one that is read
+-- the numbers of an item, the debug instruction number included, but not those of its debug location
 abbrev pub KindIsLimited : ItemKind → Type 0
-KindIsLimited (Code i k) = All IsLimited i.operands × IfSome k (λ n. n ≤ MAX_NUMBER) × IsTrue (is_read i.op)
+KindIsLimited (Code i k) = All IsLimited i.operands × IfSome k (λ n. n ≤ MAX_NUMBER)
 KindIsLimited (Mark v m) = VariableIsLimited v × ValueIsLimited m
 KindIsLimited (Phi p k) = PlaceIsLimited p × (k ≤ MAX_NUMBER)
 
@@ -63,3 +77,16 @@ abbrev pub LocIsLimited : Loc → Type 0
 LocIsLimited Absent = Unit {0}
 LocIsLimited (Node n) = n ≤ MAX_NUMBER
 LocIsLimited (Inline l) = (l.line ≤ MAX_NUMBER) × (l.column ≤ MAX_NUMBER) × (l.scope ≤ MAX_NUMBER) × IfSome l.inlined_at (λ n. n ≤ MAX_NUMBER)
+
+-- ---- languages: the linked language has more operands and opcodes
+
+-- an operand of a language: halves of addresses are of the linked one alone
+abbrev pub IsOperandOf : (linked : Bool) → Operand → Type 0
+IsOperandOf linked (Part half y) = linked ≡ true
+IsOperandOf linked _ = Unit {0}
+
+-- an item of a language: its opcode is one that is read there
+abbrev pub IsOfLanguage : (linked : Bool) → ItemKind → Type 0
+IsOfLanguage linked (Code i k) = All (IsOperandOf linked) i.operands × IsTrue (is_read linked i.op)
+IsOfLanguage linked (Mark v m) = Unit {0}
+IsOfLanguage linked (Phi p k) = Unit {0}

@@ -1,5 +1,5 @@
 -- The program in a text.
-use Rattle.std.specs.Prelude.{◌≡◌, ℕ, ◌<◌, ◌≤◌, List, [], ◌∷◌, ◌++◌, length, Option, Some, None, Result, Ok, Err}
+use Rattle.std.specs.Prelude.{◌≡◌, ℕ, Bool, ◌<◌, ◌≤◌, List, [], ◌∷◌, ◌++◌, length, Option, Some, None, Result, Ok, Err}
 use Rattle.read_refusal.specs.declared.kind.RefusalKind.TheVariants.{TooMany, BadDocument}
 use Rattle.read_metadata.specs.Maps.{Maps}
 use Rattle.read_metadata.specs.Metadata.{metadata_of}
@@ -52,6 +52,6 @@ UnlessMemory (Ok x) said = said
 UnlessMemory (Err errors.Memory) said = Unit {0}
 UnlessMemory (Err (errors.Refused r)) said = said
 
--- the program in a text, or the text's first refusal
-abbrev pub ReadsText : List ℕ → Result Program ParseError → Type 0
-ReadsText text answer = ReadsDocuments (documents_of text) answer
+-- the program in a text, or the text's first refusal; `linked` is whether the linked language is read
+abbrev pub ReadsText : (linked : Bool) → List ℕ → Result Program ParseError → Type 0
+ReadsText linked text answer = ReadsDocuments (documents_of linked text) answer

@@ -8,9 +8,11 @@ ghost use Rattle.read_declarations.specs.Declarations.{declarations_of};
 ghost use Rattle.read_body.specs.Body.{and_last};
 ghost use Rattle.read_program.specs.BodyLines.{body_of};
 ghost use Rattle.read_program.specs.Closing.{AreEntries, entry_ids, parts_of, Closes};
+ghost use Rattle.read_program.specs.Pool.{are_known};
 
 use crate::error::ParseError;
 use crate::objects::{blocks_as, blocks_stay};
+use crate::pool::are_known;
 use base_list::List;
 use mir_func::block::{Block, Blocks};
 use mir_func::func::{Func, FuncError, SlotIds};
@@ -90,6 +92,17 @@ fn parts_of(
     }))
 }
 
+/// Whether each constant of the pool that code names is declared.
+fn has_constants(
+    alloc: Global,
+    declared: &Declarations,
+    blocks: &Blocks,
+) -> Result<bool, AllocError>
+    ensures { IfOk result (λ known. known ≡ are_known declared.now.pool blocks.now) }
+{
+    are_known(alloc, declared.pool.as_slice(), blocks.as_slice())
+}
+
 /// The refusal of the closing line.
 fn refused(line: u32, kind: RefusalKind) -> ParseError
     ensures { result ≡ ParseError.Refused (record { line = line; kind = kind }) }
@@ -133,11 +146,12 @@ pub fn close(
 ) -> Result<Parsed, ParseError>
     requires { AreEntries declared.stack }
     ensures { (meta : Maps) (doc : FunctionDocument) →
-        declarations_of doc ≡ Ok declared → body_of meta doc.body ≡ Ok body → Closes line declared body result }
+        declarations_of doc ≡ Ok declared → body_of doc.linked meta doc.body ≡ Ok body → Closes line declared body result }
 {
     let Body {
         before,
         last,
+        closed: _,
         entries,
         items: _,
         ids,
@@ -153,6 +167,10 @@ pub fn close(
     }
     let known = entry_ids(alloc, declared.stack.as_slice())?;
     if !all_met(&known, entries.as_slice()) {
+        return Err(refused(line, RefusalKind::StackObject));
+    }
+    let are_declared = has_constants(alloc, &declared, &blocks)?;
+    if !are_declared {
         return Err(refused(line, RefusalKind::StackObject));
     }
     let Some(parts) = parts_of(

@@ -8,7 +8,9 @@
 
 pub mod body;
 pub mod closing;
+pub mod ends;
 pub mod error;
 pub mod objects;
 pub mod parse;
+pub mod pool;
 pub mod program;

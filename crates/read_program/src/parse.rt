@@ -47,7 +47,7 @@ fn put_together(
     body: Result<Body, Refusal>,
 ) -> Result<Parsed, ParseError>
     requires { IfOk declared (λ d. AreEntries d.stack) }
-    ensures { (meta : Maps) (doc : FunctionDocument) → declarations_of doc ≡ declared → body_of meta doc.body ≡ body →
+    ensures { (meta : Maps) (doc : FunctionDocument) → declarations_of doc ≡ declared → body_of doc.linked meta doc.body ≡ body →
         ParsesParts line declared body result }
 {
     match declared {
@@ -78,6 +78,6 @@ pub fn parse(
     ensures { Parses meta.now document.now result }
 {
     let declared = declared(alloc, document)?;
-    let body = read_body(alloc, document.body.as_slice(), meta)?;
+    let body = read_body(alloc, document.linked, document.body.as_slice(), meta)?;
     put_together(alloc, document.closed, declared, body)
 }

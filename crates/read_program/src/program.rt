@@ -71,19 +71,19 @@ fn whole(
     }
 }
 
-/// The program in a text of fewer than 2^31 bytes. The error is the first refusal, of a line with the lowest number
-/// of its causes, or want of memory. Refused is a line of a function, the opening line of a function above the limit,
-/// or the first line where the text is no sequence of documents. (YAML 1.2; LLVM, Machine IR (MIR) Format Reference
-/// Manual.)
-pub fn read_program(alloc: Global, text: &[u8]) -> Result<Program, ParseError>
+/// The program in a text of fewer than 2^31 bytes; `linked` is whether the linked language is read. The error is the
+/// first refusal, of a line with the lowest number of its causes, or want of memory. Refused is a line of a function,
+/// the opening line of a function above the limit, or the first line where the text is no sequence of documents. (YAML
+/// 1.2; LLVM, Machine IR (MIR) Format Reference Manual.)
+pub fn read_program(alloc: Global, linked: bool, text: &[u8]) -> Result<Program, ParseError>
     requires { length text.now < 2 ^ 31 }
-    ensures { UnlessMemory result (ReadsText text.now result) }
+    ensures { UnlessMemory result (ReadsText linked text.now result) }
 {
     let Documents {
         meta,
         functions,
         bad,
-    } = documents(alloc, text)?;
+    } = documents(alloc, linked, text)?;
     let meta = read_meta(alloc, &meta)?;
     let functions = read_functions(alloc, functions.as_slice(), &meta, List::new(alloc))?;
     whole(functions, meta, bad)

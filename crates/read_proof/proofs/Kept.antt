@@ -1,9 +1,13 @@
 -- What an item keeps where stack entries are read as objects: its numbers, and that its text tells it.
-use Rattle.std.proofs.Common.{◌≡◌, ℕ, ◌<◌, ◌≤◌, Bool, true, false, cond, List, All, Option, Some, None, refl, sym, subst, ◌∙◌, arith}
-use Rattle.std.specs.Prelude.{IfSome, is_some, IsTrue}
+use Rattle.std.proofs.Common.{◌≡◌, ℕ, ℤ, pos, negsuc, ◌<◌, ◌≤◌, Bool, true, false, cond, List, All, Option, Some, None, refl, sym, subst, ◌∙◌, arith}
+use Rattle.std.specs.Prelude.{IfSome, is_some, IsTrue, int_le}
+use Rattle.std.proofs.lemmas.Bool.{and_parts, leb-true}
 use Rattle.std.proofs.lemmas.List.Elements.{All-map, All-weaker}
 use Rattle.rv64_instr.specs.declared.operand.Operand.{Operand}
 use Rattle.rv64_instr.specs.declared.operand.Operand.TheVariants.{Def, Use, ImplicitDef, ImplicitUse, Imm, Slot, Object, Part, Outgoing, Block, Symbol, Mask}
+use Rattle.rv64_instr.specs.declared.symbol.Symbol.{Symbol as Linked}
+use Rattle.rv64_instr.specs.declared.symbol.Symbol.TheVariants.{Global, Constant as PoolConstant}
+use Rattle.rv64_instr.specs.Form.{IsSigned, is_within}
 use Rattle.rv64_instr.specs.declared.place.Place.{Place}
 use Rattle.rv64_instr.specs.declared.place.Place.TheVariants as place
 use Rattle.rv64_instr.specs.Instruction.{Instruction}
@@ -27,11 +31,11 @@ use Rattle.read_body.specs.StackEntryKind.{objects_of, ids_of_objects}
 use Rattle.read_body.specs.FirstUseOrder.{is_met}
 use Rattle.read_program.specs.Closing.{entry_ids}
 use Rattle.read_program.specs.Objects.{operand_as, operands_as, is_object, place_as, kind_as}
-use Rattle.mir_printer.specs.Printable.{IsNumber, HasNumbers, IsAsDeclared, IsPrintableInstruction, IsPrintablePlace, IsPrintableValue}
+use Rattle.mir_printer.specs.Printable.{IsNumber, HasSymbolNumber, HasNumbers, IsAsDeclared, IsPrintableInstruction, IsPrintablePlace, IsPrintableValue}
 use Rattle.mir_printer.specs.Printable.{IsPrintableLoc, Declared}
 use Rattle.mir_printer.specs.Printable.{inlined_at as text_inlined_at, IsPrintableKind}
 use Rattle.read_item.specs.Opcode.{is_read}
-use Rattle.read_program.specs.Limited.{IsLimited, ValueIsLimited, PlaceIsLimited, KindIsLimited, LocIsLimited}
+use Rattle.read_program.specs.Limited.{SymbolIsLimited, IsLimited, ValueIsLimited, PlaceIsLimited, KindIsLimited, LocIsLimited, IsOperandOf, IsOfLanguage}
 use Rattle.read_program.proofs.Entries.{object_if_named, ids_are_objects}
 use Rattle.read_program.proofs.Items.{IsReadItem}
 use Rattle.read_program.proofs.Lists.{both}
@@ -51,6 +55,16 @@ some_number : (n : Option ℕ) → IfSome n (λ k. k ≤ MAX_NUMBER) → IfSome 
 some_number None small = tt
 some_number (Some n) small = limited_number n small
 
+symbol_number : (symbol : Linked) → SymbolIsLimited symbol → HasSymbolNumber symbol
+symbol_number (Global name) small = tt
+symbol_number (PoolConstant n) small = limited_number n small
+
+addend_signed : (i : ℤ) → is_within (negsuc 2147483647) (pos 2147483647) i ≡ true → IsSigned i
+addend_signed (pos n) is =
+    let small = leb-true n 2147483647 (and_parts (int_le (negsuc 2147483647) (pos n)) (int_le (pos n) (pos 2147483647)) is).1 in omega (arith, small)
+addend_signed (negsuc n) is =
+    let small = leb-true n 2147483647 (and_parts (int_le (negsuc 2147483647) (negsuc n)) (int_le (negsuc n) (pos 2147483647)) is).0 in omega (arith, small)
+
 operand_numbers : (o : Operand) → IsLimited o → HasNumbers o
 operand_numbers (Def r) small = register_number r small
 operand_numbers (Use r) small = register_number r small
@@ -59,7 +73,7 @@ operand_numbers (ImplicitUse r) small = register_number r (omega (arith, small))
 operand_numbers (Imm i) small = small
 operand_numbers (Slot n) small = limited_number n small
 operand_numbers (Object n) small = limited_number n small
-operand_numbers (Part half y) small = absurd small
+operand_numbers (Part half y) small = record { symbol = symbol_number y.symbol small.symbol; addend = addend_signed y.addend small.addend }
 operand_numbers (Outgoing n) small = absurd small
 operand_numbers (Block n) small = limited_number n small
 operand_numbers (Symbol name) small = tt
@@ -94,7 +108,7 @@ inlined_alike meta Absent = refl
 inlined_alike meta (Node n) = refl
 inlined_alike meta (Inline l) = refl
 
-module _ (meta : Maps) (named : List ℕ) (es : List StackEntry) where
+module _ (linked : Bool) (meta : Maps) (named : List ℕ) (es : List StackEntry) where
   abbrev ids : List ℕ
   ids = ids_of_objects named es
 
@@ -127,10 +141,30 @@ module _ (meta : Maps) (named : List ℕ) (es : List StackEntry) where
 
   kind_limited : (kind : ItemKind) → HasForm kind → KindIsLimited kind → KindIsLimited (kind_as ids kind)
   kind_limited (Code i k) form small =
-      subst (λ (j : Instruction). All IsLimited j.operands × IfSome k (λ n. n ≤ MAX_NUMBER) × IsTrue (is_read j.op)) (sym (renamed ids i form))
-      (operands_limited i.operands small.0, small.1, small.2)
+      subst (λ (j : Instruction). All IsLimited j.operands × IfSome k (λ n. n ≤ MAX_NUMBER)) (sym (renamed ids i form))
+      (operands_limited i.operands small.0, small.1)
   kind_limited (Mark v m) form small = small
   kind_limited (Phi p k) form small = (place_limited p small.0, small.1)
+
+  -- ---- items stay of their language
+
+  operand_language : (o : Operand) → IsOperandOf linked o → IsOperandOf linked (operand_as ids o)
+  operand_language (Slot n) is = by (is_met n ids) where
+    by : (b : Bool) → IsOperandOf linked (cond b (Object n) (Slot n))
+    by true = tt
+    by false = tt
+  operand_language (Part half y) is = is
+  operand_language _ is = tt
+
+  kind_language : (kind : ItemKind) → HasForm kind → IsOfLanguage linked kind → IsOfLanguage linked (kind_as ids kind)
+  kind_language (Code i k) form is =
+      subst (λ (j : Instruction). All (IsOperandOf linked) j.operands × IsTrue (is_read linked j.op)) (sym (renamed ids i form)) (
+        All-map (IsOperandOf linked) (operand_as ids) i.operands
+            (All-weaker (IsOperandOf linked) (λ o. IsOperandOf linked (operand_as ids o)) operand_language i.operands is.0),
+        is.1,
+      )
+  kind_language (Mark v m) form is = tt
+  kind_language (Phi p k) form is = tt
 
   -- ---- operands are as they are declared
 
@@ -152,7 +186,7 @@ module _ (meta : Maps) (named : List ℕ) (es : List StackEntry) where
   -- ---- items
 
   module _ (entries : List ℕ) (all : (n : ℕ) → is_met n entries ≡ true → is_met n (entry_ids es) ≡ true) where
-    kind_printable : (kind : ItemKind) (loc : Loc) → IsReadItem meta entries kind loc → ((n : ℕ) → object_named kind ≡ Some n → is_met n named ≡ true) →
+    kind_printable : (kind : ItemKind) (loc : Loc) → IsReadItem linked meta entries kind loc → ((n : ℕ) → object_named kind ≡ Some n → is_met n named ≡ true) →
         IsPrintableKind declared loc (kind_as ids kind)
     kind_printable (Code i k) loc is code = (
       subst (IsPrintableInstruction objects) (sym (renamed ids i is.form)) (record {
@@ -176,15 +210,17 @@ module _ (meta : Maps) (named : List ℕ) (es : List StackEntry) where
     pub record IsKept (kind : ItemKind) (loc : Loc) : Type 0 where
       pub form : HasForm kind
       pub limited : KindIsLimited kind
+      pub language : IsOfLanguage linked kind
       pub place : LocIsLimited loc
       pub printable : IsPrintableKind declared loc kind
       pub told : IsPrintableLoc loc
 
-    pub item_kept : (kind : ItemKind) (loc : Loc) → IsReadItem meta entries kind loc → ((n : ℕ) → object_named kind ≡ Some n → is_met n named ≡ true) →
+    pub item_kept : (kind : ItemKind) (loc : Loc) → IsReadItem linked meta entries kind loc → ((n : ℕ) → object_named kind ≡ Some n → is_met n named ≡ true) →
         IsKept (kind_as ids kind) loc
     item_kept kind loc is code = record {
       form = has_form_as ids kind is.form;
       limited = kind_limited kind is.form is.limited;
+      language = kind_language kind is.form is.language;
       place = is.place;
       printable = kind_printable kind loc is code;
       told = loc_printable loc is.place;

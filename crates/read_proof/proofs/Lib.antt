@@ -3,3 +3,4 @@ pub mod Numbers
 pub mod Labels
 pub mod Kept
 pub mod Texts
+pub mod Languages

@@ -21,7 +21,6 @@ use Rattle.mir_func.specs.declared.debug_substitution.DebugSubstitution.{DebugSu
 use Rattle.mir_func.specs.declared.item.Item.{Item}
 use Rattle.mir_func.specs.declared.item.ItemKind.{ItemKind}
 use Rattle.mir_func.specs.declared.location.Loc.{Loc}
-use Rattle.mir_func.specs.Function.{Function}
 use Rattle.mir_func.specs.Sound.{AreApart, AllItems, IsSound, HasForm}
 use Rattle.read_declarations.specs.declared.declarations.Declarations.{Declarations}
 use Rattle.read_declarations.specs.Declarations.{declarations_of}
@@ -35,18 +34,18 @@ use Rattle.read_program.specs.declared.closing.Parsed.{Parsed}
 use Rattle.read_program.specs.declared.error.ParseError.{ParseError}
 use Rattle.read_program.specs.declared.program.Program.{Program}
 use Rattle.read_program.specs.Objects.{kind_as, blocks_as}
+use Rattle.read_program.specs.Pool.{are_known}
 use Rattle.read_program.specs.Closing.{entry_ids, parts_of, function_of, ParsesParts, Parses}
 use Rattle.read_program.specs.BodyLines.{body_of}
 use Rattle.read_program.specs.Program.{MAX_FUNCTIONS, Goes, too_many, FunctionsFrom, program_of}
 use Rattle.mir_printer.specs.Printable.{IsPrintable}
-use Rattle.read_program.specs.Limited.{KindIsLimited, LocIsLimited}
+use Rattle.read_program.specs.Limited.{KindIsLimited, LocIsLimited, IsOfLanguage}
 use Rattle.read_proof.specs.Read.{declared_in, EntryIsLimited, LocationsAreLimited, IsReadFunction, IsReadProgram, ProgramsAreAsRead}
-use Rattle.read_program.proofs.Bodies.{IsReadBlock, IsReadBody, ComesFromLine, body_reads}
+use Rattle.read_program.proofs.Bodies.{IsReadBlock, IsReadBody}
+use Rattle.read_program.proofs.Comes.{EndsFromLine, body_reads}
 use Rattle.read_program.proofs.Entries.{declared_if_met}
-use Rattle.read_program.proofs.Forms.{line_fits}
 use Rattle.read_program.proofs.Frames.{objects_unfixed}
-use Rattle.read_program.proofs.Items.{item_reads}
-use Rattle.read_program.proofs.Judged.{judged_line}
+use Rattle.read_program.proofs.Keeps.{keeps_item}
 use Rattle.read_proof.proofs.Kept.{IsKept, item_kept}
 use Rattle.read_proof.proofs.Labels.{ids_small, blocks_small}
 use Rattle.read_proof.proofs.Nodes.{Small, IsLimited, node_limited}
@@ -57,26 +56,31 @@ use Rattle.read_program.proofs.Renamed.{ids_as, items_as, blocks_kept}
 -- ---- functions
 
 -- what closing asks: all stack entries that are named are declared
-all_declared : (a b c : Bool) → cond a (cond (b && c) None (Some StackObject)) (Some UnknownBlock) ≡ None → b ≡ true
+pub all_declared : (a b c : Bool) → cond a (cond (b && c) None (Some StackObject)) (Some UnknownBlock) ≡ None → b ≡ true
 all_declared true true c e = refl
 all_declared true false c e = absurd cc
 all_declared false b c e = absurd cc
 
-module _ (meta : Maps) (d : Declarations) (body : Body) (all : (n : ℕ) → is_met n body.entries ≡ true → is_met n (entry_ids d.stack) ≡ true) where
+module _ (linked : Bool) (meta : Maps) (d : Declarations) (body : Body) (all : (n : ℕ) → is_met n body.entries ≡ true →
+    is_met n (entry_ids d.stack) ≡ true) where
   abbrev ids : List ℕ
   ids = ids_of_objects body.objects d.stack
 
   abbrev Kept : ItemKind → Loc → Type 0
-  Kept = IsKept meta body.objects d.stack body.entries all
+  Kept = IsKept linked meta body.objects d.stack body.entries all
 
-  kept_from_line : (kind : ItemKind) (loc : Loc) → ComesFromLine meta body kind loc → Kept (kind_as ids kind) loc
-  kept_from_line kind loc from =
-      let judged = judged_line meta from.form from.item from.judged in
-      let is = item_reads meta body.entries from.form from.item (line_fits from.text from.form from.says) judged from.entries in
-      subst (λ (l : Loc). Kept (kind_as ids kind) l) from.loc_is (subst (λ (k : ItemKind). Kept (kind_as ids k) from.item.loc) from.kind_is
-      (item_kept meta body.objects d.stack body.entries all from.item.kind from.item.loc is from.object))
+  kept_item : (kind : ItemKind) (loc : Loc) → EndsFromLine linked meta body kind loc → Kept (kind_as ids kind) loc
+  kept_item kind loc from =
+      let keeps = keeps_item linked meta body kind loc from in
+      item_kept linked meta body.objects d.stack body.entries all kind loc keeps.item keeps.object
 
-  function_reads : IsReadBody (ComesFromLine meta body) body → IsSound (function_of d body) → All Small body.ids → DeclaresSmall d →
+  pub function_language : IsReadBody (EndsFromLine linked meta body) body → AllItems (λ i. IsOfLanguage linked i.kind) (function_of d body).blocks
+  function_language is =
+      All-weaker (IsReadBlock Kept) (λ (b : Block). All (λ i. IsOfLanguage linked i.kind) b.items)
+      (λ b r. All-weaker (λ i. Kept i.kind i.loc) (λ i. IsOfLanguage linked i.kind) (λ i k. k.language) b.items r.each)
+      (blocks_as ids (blocks_of body)) (blocks_kept (EndsFromLine linked meta body) Kept ids kept_item (blocks_of body) is.blocks)
+
+  function_reads : IsReadBody (EndsFromLine linked meta body) body → IsSound (function_of d body) → All Small body.ids → DeclaresSmall d →
       IsReadFunction meta (function_of d body)
   function_reads is sound small declares = record {
     sound = sound;
@@ -98,7 +102,7 @@ module _ (meta : Maps) (d : Declarations) (body : Body) (all : (n : ℕ) → is_
     blocks = blocks_as ids (blocks_of body)
 
     kept : All (IsReadBlock Kept) blocks
-    kept = blocks_kept (ComesFromLine meta body) Kept ids kept_from_line (blocks_of body) is.blocks
+    kept = blocks_kept (EndsFromLine linked meta body) Kept ids kept_item (blocks_of body) is.blocks
 
     each : (P : Item → Type 0) → ((i : Item) → Kept i.kind i.loc → P i) → AllItems P blocks
     each P from = All-weaker (IsReadBlock Kept) (λ (b : Block). All P b.items) (λ b r. All-weaker (λ i. Kept i.kind i.loc) P from b.items r.each) blocks kept
@@ -109,15 +113,15 @@ record IsRead (meta : Maps) (p : Parsed) : Type 0 where
   substitutions : All EntryIsLimited p.subs
 
 parts_read : (meta : Maps) (doc : FunctionDocument) (declared : Result Declarations Refusal) (body : Result Body Refusal) (p : Parsed) →
-    declarations_of doc ≡ declared → body_of meta doc.body ≡ body → ParsesParts doc.closed declared body (Ok p) → IsRead meta p
+    declarations_of doc ≡ declared → body_of doc.linked meta doc.body ≡ body → ParsesParts doc.closed declared body (Ok p) → IsRead meta p
 parts_read meta doc (Ok d) (Ok body) p said is closes =
     let met = all_declared (blocks_go_to body.ids (blocks_of body)) (all_met (entry_ids d.stack) body.entries)
-    (is_some (parts_of body.objects d.stack (blocks_of body))) closes.0 in
+    (are_known d.pool (blocks_of body) && is_some (parts_of body.objects d.stack (blocks_of body))) closes.0 in
     let declares = declares_small doc d said in
     record {
       function = subst (IsReadFunction meta) (sym closes.1)
-          (function_reads meta d body (declared_if_met (entry_ids d.stack) body.entries met) (body_reads meta doc.body body is)
-          (sound_if_ends_well meta doc d body said is closes.0 closes.3) (ids_small meta doc.body body is) declares);
+          (function_reads doc.linked meta d body (declared_if_met (entry_ids d.stack) body.entries met) (body_reads doc.linked meta doc.body body is)
+          (sound_if_ends_well meta doc d body said is closes.0 closes.3) (ids_small doc.linked meta doc.body body is) declares);
       substitutions = subst (λ (subs : List DebugSubstitution). All EntryIsLimited subs) (sym closes.2) declares.substitutions;
     }
 parts_read meta doc (Err r) (Ok body) p said is closes = absurd closes
@@ -125,7 +129,7 @@ parts_read meta doc (Ok d) (Err s) p said is closes = absurd closes
 parts_read meta doc (Err r) (Err s) p said is closes = absurd closes
 
 parsed_reads : (meta : Maps) (doc : FunctionDocument) (p : Parsed) → Parses meta doc (Ok p) → IsRead meta p
-parsed_reads meta doc p parses = parts_read meta doc (declarations_of doc) (body_of meta doc.body) p refl refl parses
+parsed_reads meta doc p parses = parts_read meta doc (declarations_of doc) (body_of doc.linked meta doc.body) p refl refl parses
 
 -- ---- texts
 
@@ -157,7 +161,7 @@ module _ (meta : Maps) where
     not_ok : Ok all ≡ too_many d → ⊥
     not_ok e = cc
 
-program_is : (meta : Maps) (bad : Option ℕ) (functions : Result (List Parsed) ParseError) (p : Program) → Ok p ≡ program_of meta bad functions →
+pub program_is : (meta : Maps) (bad : Option ℕ) (functions : Result (List Parsed) ParseError) (p : Program) → Ok p ≡ program_of meta bad functions →
     (fs : List Parsed) × (functions ≡ Ok fs) × (p ≡ record { functions = fs; meta = meta })
 program_is meta bad (Err e) p is = absurd cc
 program_is meta None (Ok fs) p is = (fs, refl, cc)
@@ -176,8 +180,8 @@ locations_limited : (lines : List Line) → LocationsAreLimited (metadata_of lin
 locations_limited lines n = node_inlined (node_at (metadata_of lines) n) (node_limited lines n)
 
 pub programs_are_as_read : ProgramsAreAsRead
-programs_are_as_read text p reads =
-    let docs = documents_of text in
+programs_are_as_read linked text p reads =
+    let docs = documents_of linked text in
     let meta = metadata_of docs.meta in
     let is = program_is meta docs.bad reads.0 p reads.2 in
     let all = functions_read meta docs.functions [] is.0

@@ -1,5 +1,5 @@
 -- Invariants of every function and program that was read from a text.
-use Rattle.std.specs.Prelude.{ℕ, ◌<◌, ◌≤◌, is_some, IfSome, List, All, length, Option, Some, Ok}
+use Rattle.std.specs.Prelude.{ℕ, ◌<◌, ◌≤◌, Bool, is_some, IfSome, List, All, length, Option, Some, Ok}
 use Rattle.read_metadata.specs.Maps.{Maps}
 use Rattle.read_metadata.specs.Metadata.{location_at}
 use Rattle.mir_func.specs.declared.debug_substitution.DebugSubstitution.{DebugSubstitution}
@@ -13,7 +13,7 @@ use Rattle.read_item.specs.Debug.{inlined_at_node}
 use Rattle.read_body.specs.Limits.{MAX_ITEMS}
 use Rattle.read_program.specs.declared.closing.Parsed.{Parsed}
 use Rattle.read_program.specs.declared.program.Program.{Program}
-use Rattle.read_program.specs.Limited.{KindIsLimited, LocIsLimited}
+use Rattle.read_program.specs.Limited.{KindIsLimited, LocIsLimited, IsOfLanguage}
 use Rattle.read_program.specs.Program.{MAX_FUNCTIONS, ReadsText}
 use Rattle.mir_printer.specs.Printable.{Declared, IsPrintable}
 
@@ -62,6 +62,11 @@ pub record IsReadProgram (p : Program) : Type 0 where
   pub substitutions : All (λ (f : Parsed). All EntryIsLimited f.subs) p.functions
   pub locations : LocationsAreLimited p.meta
 
--- Every program read from a text has these properties.
+-- Every program read from a text has these properties, whichever language is read.
 abbrev pub ProgramsAreAsRead : Type 0
-ProgramsAreAsRead = (text : List ℕ) (p : Program) → ReadsText text (Ok p) → IsReadProgram p
+ProgramsAreAsRead = (linked : Bool) (text : List ℕ) (p : Program) → ReadsText linked text (Ok p) → IsReadProgram p
+
+-- Its items are of the language that is read.
+abbrev pub ProgramsAreOfTheirLanguage : Type 0
+ProgramsAreOfTheirLanguage = (linked : Bool) (text : List ℕ) (p : Program) → ReadsText linked text (Ok p) →
+    All (λ (f : Parsed). AllItems (λ i. IsOfLanguage linked i.kind) f.func.blocks) p.functions

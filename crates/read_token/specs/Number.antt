@@ -1,5 +1,7 @@
 -- The values of numbers: digits, `0x` and hexadecimal digits, and a `-` before digits.
-use Rattle.std.specs.Prelude.{ℕ, zero, suc, pos, negsuc, ◌^◌, ◌&&◌, ◌==◌, min, nat_lt, if◌then◌else◌, List, [], ◌∷◌, Option, Some, None}
+use Rattle.std.specs.Prelude.{ℕ, zero, suc, pos, negsuc, ◌^◌, Bool, ◌&&◌, not, ◌==◌, min, nat_lt, if◌then◌else◌, length, List, [], ◌∷◌, Option, Some, None}
+use Rattle.std.specs.List.{prefix_len}
+use Rattle.std.specs.Char.{is_ascii_digit}
 use Rattle.read_metadata.specs.Number.{value_behind}
 use Rattle.read_token.specs.declared.lexeme.Number.{Number}
 use Rattle.read_token.specs.declared.lexeme.Number.TheVariants.{Fits, Large, Wide}
@@ -23,6 +25,10 @@ narrow_value base digits = narrow (value_of base digits)
 -- The value of decimal digits that are a number or count, and `BEYOND` if it is above the limit.
 unfoldable pub limited : List ℕ → ℕ
 limited digits = min (value_of 10 digits) BEYOND
+
+-- digits, at least one, and nothing else
+abbrev pub is_number : List ℕ → Bool
+is_number text = not (length text == 0) && prefix_len is_ascii_digit text == length text
 
 -- an integer without a sign, from its absolute value
 abbrev pub unsigned : ℕ → Number

@@ -31,7 +31,9 @@ single_of byte =
     else (if byte == 40 then lexemes.Open
     else (if byte == 41 then lexemes.Close
     else (if byte == 58 then lexemes.Colon
-    else lexemes.Other))))
+    else (if byte == 43 then lexemes.Plus
+    else (if byte == 45 then lexemes.Minus
+    else lexemes.Other))))))
 
 -- the lexeme of a token with this class and this text
 abbrev pub lexeme_by : Class → Token → List ℕ → Lexeme

@@ -7,7 +7,7 @@ use Rattle.read_token.specs.declared.lexeme.Flag.{Flag}
 use Rattle.read_token.specs.declared.lexeme.Flag.TheVariants.{Plain, Implicit, ImplicitDef}
 use Rattle.read_token.specs.declared.lexeme.Word.{Word}
 use Rattle.read_token.specs.declared.lexeme.Word.TheVariants as words
-use Rattle.read_token.specs.Number.{limited}
+use Rattle.read_token.specs.Number.{limited, is_number}
 
 -- `f` of the value, or `other` if there is none
 abbrev pub case_of : {A B : Type 0} → Option A → (A → B) → B → B
@@ -29,6 +29,26 @@ flag_of text =
     else (if is_plain text then Some Plain
     else None))
 
+-- the type `iN` of integers
+abbrev pub is_integer_type : List ℕ → Bool
+is_integer_type [] = false
+is_integer_type (b ∷ bs) = b == 105 && is_number bs
+
+-- whether a text is the name of a type that may stand before a literal (LLVM Language Reference, "Simple Constants")
+abbrev pub is_type : List ℕ → Bool
+is_type text =
+    bytes_eq text (codes "half") || (bytes_eq text (codes "float") || (bytes_eq text (codes "double") || (bytes_eq text (codes "fp128")
+    || (bytes_eq text (codes "ptr") || is_integer_type text))))
+
+-- the keyword of calls that don't return, of parts of addresses or of literals that a text is, if it is one (LLVM, RISC-V: `target-flags`)
+abbrev pub linked_keyword_of : List ℕ → Option Word
+linked_keyword_of text =
+    if bytes_eq text (codes "noreturn") then Some words.NoReturn
+    else (if bytes_eq text (codes "riscv-hi") then Some words.HighPart
+    else (if bytes_eq text (codes "riscv-lo") then Some words.LowPart
+    else (if is_type text then Some words.TypeName
+    else None)))
+
 -- the keyword that a text is, if it is one
 unfoldable pub keyword_of : List ℕ → Option Word
 keyword_of text =
@@ -43,7 +63,7 @@ keyword_of text =
     else (if bytes_eq text (codes "column") then Some words.Column
     else (if bytes_eq text (codes "scope") then Some words.Scope
     else (if bytes_eq text (codes "inlinedAt") then Some words.InlinedAt
-    else None))))))))))
+    else linked_keyword_of text))))))))))
 
 -- whether a text is empty, or a dot and a name of at least one byte
 abbrev pub is_name_behind : List ℕ → Bool

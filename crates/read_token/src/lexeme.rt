@@ -73,6 +73,14 @@ pub enum Word {
     Argument,
     /// `DW_OP_LLVM_fragment`.
     Fragment,
+    /// `noreturn`: a flag of calls.
+    NoReturn,
+    /// `riscv-hi`: the operand behind is the upper half of an address (LLVM: `MO_HI`).
+    HighPart,
+    /// `riscv-lo`: it is the lower half (LLVM: `MO_LO`).
+    LowPart,
+    /// The name of a type before a literal: `half`, `float`, `double`, `fp128`, `ptr` or `iN`.
+    TypeName,
     /// `bb.N` or `bb.N.name`; the number is `BEYOND` for every block above the limit.
     Block(BlockId),
     /// Another one that begins with a lower-case letter.
@@ -94,6 +102,10 @@ pub enum Lexeme {
     Slot(SlotId),
     /// `%bb.N` or `%bb.N.name`.
     Block(BlockId),
+    /// `%fixed-stack.N`; `BEYOND` for every number above the limit.
+    Fixed(u32),
+    /// `%const.N`; `BEYOND` for every number above the limit.
+    Constant(u32),
     /// `!N`.
     Node(NodeId),
     /// `!DIExpression`.
@@ -114,6 +126,10 @@ pub enum Lexeme {
     Close,
     /// `:`
     Colon,
+    /// `+`
+    Plus,
+    /// `-` where no digit follows.
+    Minus,
     /// Any other token.
     Other,
 }

@@ -1,9 +1,10 @@
 //! The values of numbers.
 
 ghost use Rattle.std.specs.Prelude.{◌≡◌, ◌+◌, ◌*◌, ◌^◌, ◌<◌, ◌≤◌, SomeIff};
-ghost use Rattle.read_token.specs.Number.{BEYOND, narrow_value, limited, unsigned, negated, sized, number_of};
+ghost use Rattle.read_token.specs.Number.{BEYOND, narrow_value, limited, is_number, unsigned, negated, sized, number_of};
 
 use crate::lexeme::{BEYOND, Number};
+use read_lexer::bytes::digits;
 use read_metadata::number::digit_value;
 
 /// The value with one more digit, unless it is 2^128 or more.
@@ -37,6 +38,13 @@ pub fn limited(digits: &[u8]) -> u32
         Some(value) => value.min(u128::from(BEYOND)) as u32,
         None => BEYOND,
     }
+}
+
+/// Whether a text is digits, at least one, and nothing else.
+pub fn is_number(text: &[u8]) -> bool
+    ensures { result ≡ is_number text.now }
+{
+    !text.is_empty() && digits(text) == text.len()
 }
 
 /// An integer without a sign, from its absolute value.

@@ -6,21 +6,24 @@ ghost use Rattle.read_token.specs.Register.{
   two_digits,
   physical_of,
   register_of,
-  is_number,
   virtual_of,
   slot_of,
   block_operand_of,
+  fixed_of,
+  constant_of,
   behind_stack,
+  behind_fixed,
+  behind_const,
   behind_bb,
+  numbered_of,
   percent_behind,
   percent_of,
 };
 
 use crate::lexeme::{Lexeme, RegisterName};
-use crate::number::limited;
+use crate::number::{is_number, limited};
 use crate::word::named_number;
 use base_ids::function_ids::{BlockId, SlotId};
-use read_lexer::bytes::digits;
 use rv64_instr::reg::{Reg, physical};
 
 /// The register whose number is spelled with two digits.
@@ -62,7 +65,7 @@ pub fn register(text: &[u8]) -> RegisterName
 fn virtual_register(text: &[u8]) -> Lexeme
     ensures { result ≡ virtual_of text.now }
 {
-    if !text.is_empty() && digits(text) == text.len() {
+    if is_number(text) {
         Lexeme::Register(RegisterName::Virtual(limited(text)))
     } else {
         Lexeme::Other
@@ -99,6 +102,48 @@ fn behind_stack(text: &[u8]) -> Option<&[u8]>
     }
 }
 
+/// A fixed stack object, from the text after `%fixed-stack.`.
+fn fixed(text: &[u8]) -> Lexeme
+    ensures { result ≡ fixed_of text.now }
+{
+    if is_number(text) {
+        Lexeme::Fixed(limited(text))
+    } else {
+        Lexeme::Other
+    }
+}
+
+/// A constant of the function's constant pool, from the text after `%const.`.
+fn constant(text: &[u8]) -> Lexeme
+    ensures { result ≡ constant_of text.now }
+{
+    if is_number(text) {
+        Lexeme::Constant(limited(text))
+    } else {
+        Lexeme::Other
+    }
+}
+
+/// The text after `fixed-stack.`.
+fn behind_fixed(text: &[u8]) -> Option<&[u8]>
+    ensures { Spells result (behind_fixed text.now) }
+{
+    match text {
+        [b'f', b'i', b'x', b'e', b'd', b'-', rest @ ..] => behind_stack(rest),
+        _ => None,
+    }
+}
+
+/// The text after `const.`.
+fn behind_const(text: &[u8]) -> Option<&[u8]>
+    ensures { Spells result (behind_const text.now) }
+{
+    match text {
+        [b'c', b'o', b'n', b's', b't', b'.', rest @ ..] => Some(rest),
+        _ => None,
+    }
+}
+
 /// The text after `bb.`.
 fn behind_bb(text: &[u8]) -> Option<&[u8]>
     ensures { Spells result (behind_bb text.now) }
@@ -106,6 +151,19 @@ fn behind_bb(text: &[u8]) -> Option<&[u8]>
     match text {
         [b'b', b'b', b'.', name @ ..] => Some(name),
         _ => None,
+    }
+}
+
+/// A fixed stack object, a constant, or a virtual register, from the text after `%`.
+fn numbered(text: &[u8]) -> Lexeme
+    ensures { result ≡ numbered_of text.now }
+{
+    if let Some(rest) = behind_fixed(text) {
+        return fixed(rest);
+    }
+    match behind_const(text) {
+        Some(rest) => constant(rest),
+        None => virtual_register(text),
     }
 }
 
@@ -119,7 +177,7 @@ fn percent_behind(text: &[u8]) -> Lexeme
     }
     match behind_bb(text) {
         Some(name) => block_operand(name),
-        None => virtual_register(text),
+        None => numbered(text),
     }
 }
 

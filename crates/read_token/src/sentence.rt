@@ -56,6 +56,8 @@ fn single(byte: u8) -> Lexeme
         b'(' => Lexeme::Open,
         b')' => Lexeme::Close,
         b':' => Lexeme::Colon,
+        b'+' => Lexeme::Plus,
+        b'-' => Lexeme::Minus,
         _ => Lexeme::Other,
     }
 }

@@ -5,6 +5,9 @@ ghost use Rattle.read_token.specs.Number.{BEYOND};
 ghost use Rattle.read_token.specs.Word.{
   is_plain,
   flag_of,
+  is_integer_type,
+  is_type,
+  linked_keyword_of,
   keyword_of,
   is_name_behind,
   named_number,
@@ -14,7 +17,7 @@ ghost use Rattle.read_token.specs.Word.{
 };
 
 use crate::lexeme::{Flag, Word};
-use crate::number::limited;
+use crate::number::{is_number, limited};
 use base_ids::function_ids::BlockId;
 use read_lexer::bytes::digits;
 
@@ -49,6 +52,45 @@ fn flag(text: &[u8]) -> Option<Flag>
     }
 }
 
+/// Whether a text is a type `iN` of integers.
+fn is_integer_type(text: &[u8]) -> bool
+    ensures { result ≡ is_integer_type text.now }
+{
+    match text {
+        [b'i', bits @ ..] => is_number(bits),
+        _ => false,
+    }
+}
+
+/// Whether a text is the name of a type that may stand before a literal.
+fn is_type(text: &[u8]) -> bool
+    ensures { result ≡ is_type text.now }
+{
+    text == b"half".as_slice()
+        || text == b"float".as_slice()
+        || text == b"double".as_slice()
+        || text == b"fp128".as_slice()
+        || text == b"ptr".as_slice()
+        || is_integer_type(text)
+}
+
+/// The keyword of calls that don't return, of parts of addresses or of literals that a text is, if it is one.
+fn linked_keyword(text: &[u8]) -> Option<Word>
+    ensures { result ≡ linked_keyword_of text.now }
+{
+    if text == b"noreturn".as_slice() {
+        Some(Word::NoReturn)
+    } else if text == b"riscv-hi".as_slice() {
+        Some(Word::HighPart)
+    } else if text == b"riscv-lo".as_slice() {
+        Some(Word::LowPart)
+    } else if is_type(text) {
+        Some(Word::TypeName)
+    } else {
+        None
+    }
+}
+
 /// The keyword that a text is, if it is one.
 #[tactic(auto, unfolding(crate::specs::Word::keyword_of))]
 fn keyword(text: &[u8]) -> Option<Word>
@@ -77,7 +119,7 @@ fn keyword(text: &[u8]) -> Option<Word>
     } else if text == b"inlinedAt".as_slice() {
         Some(Word::InlinedAt)
     } else {
-        None
+        linked_keyword(text)
     }
 }
 

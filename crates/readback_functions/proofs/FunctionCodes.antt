@@ -29,14 +29,15 @@ use Rattle.read_item.specs.declared.opcode.Opcode.{Opcode}
 use Rattle.read_item.specs.declared.opcode.Opcode.TheVariants as opcodes
 use Rattle.read_item.specs.Code.{MAX_OPERANDS, code_of}
 use Rattle.read_item.specs.Debug.{value_mark, reference_mark, list_mark, phi_of, inlined_at, mark_kind, phi_kind, debug_kind, debug_of}
-use Rattle.read_item.specs.Judge.{entries_of, numbered, item_of, passed_if, judged_by, judged}
+use Rattle.read_item.specs.Judge.{entries_of, numbered, item_of, two_of, passed_if, judged_by, judged}
+use Rattle.read_item.specs.Address.{address_of}
 use Rattle.read_item.specs.Opcode.{opcode_of, is_read}
 use Rattle.read_body.specs.FirstUseOrder.{is_met}
-use Rattle.read_program.specs.Limited.{IsLimited, LocIsLimited}
+use Rattle.read_program.specs.Limited.{IsLimited, IsOperandOf, LocIsLimited}
 use Rattle.read_program.specs.Objects.{operand_as, operands_as, instr_as}
 use Rattle.read_program.proofs.Forms.{line_fits}
 use Rattle.read_program.proofs.Items.{IsReadItem, item_reads}
-use Rattle.read_program.proofs.Judged.{code_line, debug_line, judged_line}
+use Rattle.read_program.proofs.Judged.{code_line, debug_line, judged_line, Judges, judges_one}
 use Rattle.read_program.proofs.Operands.{NamesAmong}
 use Rattle.read_program.proofs.Printed.{form_kept, renamed}
 use Rattle.readback_items.specs.Code.{judged_instruction, IsCode}
@@ -86,29 +87,35 @@ module _ (line : ItemForm) (c : Instruction) (k : Option ℕ) where
   no_item true j e = cc
   no_item false j e = cc
 
-  meant_by : (meta : Maps) (op : Option Opcode) (j : JudgedItem) → judged_by op meta line ≡ Ok (judged_as.Item j) → j.kind ≡ Code c k → IsMeant line c
+  no_two : (read : Result (Instruction × Instruction) RefusalKind) (j : JudgedItem) → two_of line read ≡ Ok (judged_as.Item j) → ⊥
+  no_two (Ok halves) j e = cc
+  no_two (Err refusal) j e = cc
+
+  meant_by : (meta : Maps) (op : Option Opcode) (j : JudgedItem) → judged_by false op meta line ≡ Ok (judged_as.Item j) → j.kind ≡ Code c k → IsMeant line c
   meant_by meta None j e kind = absurd cc
   meant_by meta (Some (opcodes.Code op)) j e kind = numbered_code op (code_of op line) refl j e kind
+  meant_by meta (Some opcodes.Address) j e kind = absurd (no_two (address_of line) j e)
   meant_by meta (Some (opcodes.Debug op)) j e kind = absurd (no_debug meta op (debug_of op meta line) refl j e kind)
   meant_by meta (Some opcodes.Label) j e kind = absurd (no_item _ j e)
   meant_by meta (Some opcodes.Pseudo) j e kind = absurd cc
   meant_by meta (Some opcodes.CallFrame) j e kind = absurd (no_item _ j e)
 
-  pub meant : (meta : Maps) (j : JudgedItem) → judged meta line ≡ Ok (judged_as.Item j) → j.kind ≡ Code c k → IsMeant line c
+  pub meant : (meta : Maps) (j : JudgedItem) → judged false meta line ≡ Ok (judged_as.Item j) → j.kind ≡ Code c k → IsMeant line c
   unfolding judged
-  meant meta j e kind = meant_by meta (opcode_of line.opcode) j e kind
+  meant meta j e kind = meant_by meta (opcode_of false line.opcode) j e kind
 
 -- ---- what is known of code
 
--- code that was read, by the stack entries that lines name
+-- code that was read, but not in the linked language, by the stack entries that lines name
 pub record IsKnownCode (entries : List ℕ) (c : Instruction) : Type 0 where
   pub again : (ids : List ℕ) → judged_instruction (instr_as ids c) ≡ c
   pub form : has_form c.op c.operands ≡ true
   pub limited : All IsLimited c.operands
+  pub language : All (IsOperandOf false) c.operands
   pub named : All (NamesAmong entries) c.operands
   pub pointer : All IsNotPointer c.operands
   pub few : length c.operands ≤ MAX_OPERANDS
-  pub read : IsTrue (is_read c.op)
+  pub read : IsTrue (is_read false c.op)
 
 abbrev pub KnownKind : List ℕ → ItemKind → Type 0
 KnownKind entries (Code c k) = IsKnownCode entries c
@@ -120,27 +127,28 @@ pub record IsKnownItem (entries : List ℕ) (kind : ItemKind) (loc : Loc) : Type
   pub place : LocIsLimited loc
 
 pub item_known : (meta : Maps) (end : List ℕ) (kind : ItemKind) (loc : Loc) (line : ItemForm) (j : JudgedItem) (text : List ℕ) →
-    body_line_of text ≡ Ok (OfItem line) → judged meta line ≡ Ok (judged_as.Item j) → j.kind ≡ kind → j.loc ≡ loc →
+    body_line_of false text ≡ Ok (OfItem line) → Judges (judged false meta line) j → j.kind ≡ kind → j.loc ≡ loc →
     ((n : ℕ) → is_met n j.entries ≡ true → is_met n end ≡ true) → IsKnownItem end kind loc
 item_known meta end kind loc line j text says means kind_is loc_is entries =
-    let read = item_reads meta end line j (line_fits text line says) (judged_line meta line j means) entries in
+    let read = item_reads false meta end line j (line_fits false text line says) (judged_line false meta line j means) entries in
     record { kind_is = by kind kind_is; place = subst LocIsLimited loc_is read.place }
   where
     by : (x : ItemKind) → j.kind ≡ x → KnownKind end x
     by (Mark v m) e = tt
     by (Phi p k) e = tt
     by (Code c k) e =
-        let read = item_reads meta end line j (line_fits text line says) (judged_line meta line j means) entries in
-        let is = meant line c k meta j means e in
-        let all = subst (λ (x : ItemKind). IsReadItem meta end x j.loc) e read in
+        let read = item_reads false meta end line j (line_fits false text line says) (judged_line false meta line j means) entries in
+        let is = meant line c k meta j (judges_one meta line j means) e in
+        let all = subst (λ (x : ItemKind). IsReadItem false meta end x j.loc) e read in
         record {
           again = λ ids. code_is_judged_again is.op line c ids is.is;
           form = all.form;
           limited = all.limited.0;
+          language = all.language.0;
           named = all.named;
           pointer = all.pointer;
           few = few_operands is.op line c (code_line is.op line c is.is);
-          read = all.limited.2;
+          read = all.language.1;
         }
 
 -- ---- code where stack entries are objects
@@ -151,6 +159,13 @@ operand_limited ids (Slot n) small = by (is_met n ids) where
   by true = small
   by false = small
 operand_limited ids _ small = small
+
+operand_language : (ids : List ℕ) (o : Operand) → IsOperandOf false o → IsOperandOf false (operand_as ids o)
+operand_language ids (Slot n) is = by (is_met n ids) where
+  by : (b : Bool) → IsOperandOf false (cond b (Object n) (Slot n))
+  by true = tt
+  by false = tt
+operand_language ids _ is = is
 
 operand_named : (ids entries : List ℕ) (o : Operand) → NamesAmong entries o → NamesAmong entries (operand_as ids o)
 operand_named ids entries (Slot n) is = by (is_met n ids) where
@@ -176,8 +191,11 @@ module _ (ids entries : List ℕ) (c : Instruction) (is : IsKnownCode entries c)
   pub code_limited : All IsLimited (instr_as ids c).operands
   code_limited = all_as IsLimited ids c is.form (operand_limited ids) is.limited
 
-  pub code_read : IsTrue (is_read (instr_as ids c).op)
-  code_read = subst (λ (i : Instruction). IsTrue (is_read i.op)) (sym (renamed ids c is.form)) is.read
+  pub code_language : All (IsOperandOf false) (instr_as ids c).operands
+  code_language = all_as (IsOperandOf false) ids c is.form (operand_language ids) is.language
+
+  pub code_read : IsTrue (is_read false (instr_as ids c).op)
+  code_read = subst (λ (i : Instruction). IsTrue (is_read false i.op)) (sym (renamed ids c is.form)) is.read
 
   pub code_named : All (NamesAmong entries) (instr_as ids c).operands
   code_named = all_as (NamesAmong entries) ids c is.form (operand_named ids entries) is.named

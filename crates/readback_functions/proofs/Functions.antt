@@ -1,6 +1,7 @@
 -- The document of a stripped function is read as that function.
 use Rattle.std.proofs.Common.{◌≡◌, ℕ, ◌+◌, ◌≤◌, Bool, true, false, cond, ◌&&◌, List, [], ◌∷◌, map, All, Option, Some, None, Result, Ok, Err}
 use Rattle.std.proofs.Common.{refl, sym, ap, subst, ◌∙◌, arith}
+use Rattle.std.proofs.lemmas.Bool.{and_parts, and_from}
 use Rattle.std.specs.Prelude.{is_some, IfSome}
 use Rattle.std.proofs.lemmas.List.Elements.{All-nil, All-cons, All-head, All-tail, All-map, All-weaker}
 use Rattle.read_refusal.specs.declared.first.Refusal.{Refusal}
@@ -35,9 +36,12 @@ use Rattle.read_program.specs.declared.closing.Parsed.{Parsed}
 use Rattle.read_program.specs.declared.closing.Parts.{Parts}
 use Rattle.read_program.specs.declared.error.ParseError.{ParseError}
 use Rattle.read_program.specs.BodyLines.{body_of}
+use Rattle.read_program.specs.Pool.{are_known}
 use Rattle.read_program.specs.Closing.{entry_ids, laid_out, stays, parts_of, closing_cause, function_of, EndWell, Closes, ParsesParts, Parses}
 use Rattle.read_program.specs.Objects.{instr_as, kind_as, item_as, block_as, blocks_as, blocks_stay}
-use Rattle.read_program.proofs.Bodies.{IsReadBlock, IsReadBody, ComesFromLine, body_reads}
+use Rattle.read_program.proofs.KnownConstants.{plain_known}
+use Rattle.read_program.proofs.Bodies.{IsReadBlock, IsReadBody}
+use Rattle.read_program.proofs.Comes.{ComesFromLine, plain_body_reads}
 use Rattle.read_program.proofs.Entries.{declared_if_met, ids_are_objects}
 use Rattle.read_program.proofs.Lists.{both, All-front}
 use Rattle.read_program.proofs.Soundness.{sound_if_ends_well}
@@ -58,7 +62,7 @@ use Rattle.readback_functions.specs.Known.{IsKnown}
 use Rattle.readback_functions.proofs.Known.{bodies_are_known}
 use Rattle.readback_functions.specs.Stripped.{placed_block, placed, document_of, HasNamesOfBytes, IsReadAgain, StrippedReadsBack}
 use Rattle.readback_functions.proofs.FunctionDocuments.{document_is}
-use Rattle.readback_functions.proofs.FunctionCodes.{KnownKind, IsKnownItem, item_known, code_limited, code_read, code_named, code_is}
+use Rattle.readback_functions.proofs.FunctionCodes.{KnownKind, IsKnownItem, item_known, code_limited, code_language, code_read, code_named, code_is}
 use Rattle.readback_functions.proofs.Bodies.{left_blocks, blocks_left, fewer, ids_left, blocks_named, blocks_go, blocks_read, all_stay, all_end, last_placed}
 use Rattle.readback_functions.proofs.Bodies.{code_declared, all_declared}
 
@@ -96,20 +100,25 @@ parts_some true parts = refl
 parts_some false parts = refl
 
 pub closes_all : (d : Declarations) (body : Body) → closing_cause d body ≡ None → ClosesAll d body
-closes_all d body none = by (blocks_go_to body.ids (blocks_of body)) (all_met (entry_ids d.stack) body.entries) (is_some parts) refl refl refl none where
-  parts : Option Parts
-  parts = parts_of body.objects d.stack (blocks_of body)
+closes_all d body none =
+    by (blocks_go_to body.ids (blocks_of body)) (all_met (entry_ids d.stack) body.entries) (known && is_some parts) refl refl refl none where
+      parts : Option Parts
+      parts = parts_of body.objects d.stack (blocks_of body)
 
-  by : (a b c : Bool) → blocks_go_to body.ids (blocks_of body) ≡ a → all_met (entry_ids d.stack) body.entries ≡ b → is_some parts ≡ c →
-      cond a (cond (b && c) None (Some StackObject)) (Some UnknownBlock) ≡ None → ClosesAll d body
-  by true true true p q r e = record {
-    branches = p;
-    entries = q;
-    accesses = sym (parts_some (stays (laid_out body.objects d.stack (blocks_of body))) (laid_out body.objects d.stack (blocks_of body))) ∙ r;
-  }
-  by true true false p q r e = absurd cc
-  by true false c p q r e = absurd cc
-  by false b c p q r e = absurd cc
+      known : Bool
+      known = are_known d.pool (blocks_of body)
+
+      by : (a b c : Bool) → blocks_go_to body.ids (blocks_of body) ≡ a → all_met (entry_ids d.stack) body.entries ≡ b → (known && is_some parts) ≡ c →
+          cond a (cond (b && c) None (Some StackObject)) (Some UnknownBlock) ≡ None → ClosesAll d body
+      by true true true p q r e = record {
+        branches = p;
+        entries = q;
+        accesses = sym (parts_some (stays (laid_out body.objects d.stack (blocks_of body))) (laid_out body.objects d.stack (blocks_of body)))
+            ∙ (and_parts known (is_some parts) r).1;
+      }
+      by true true false p q r e = absurd cc
+      by true false c p q r e = absurd cc
+      by false b c p q r e = absurd cc
 
 pub no_cause : (a b c : Bool) → a ≡ true → b ≡ true → c ≡ true → cond a (cond (b && c) None (Some StackObject)) (Some UnknownBlock) ≡ None
 no_cause a b c p q r = λ i. cond (p i) (cond (q i && r i) None (Some StackObject)) (Some UnknownBlock)
@@ -127,8 +136,8 @@ no_substitutions = refl
 -- ---- a function
 
 module _ (meta : Maps) (doc : FunctionDocument) (d : Declarations) (body : Body) (p : Parsed) (declared : declarations_of doc ≡ Ok d)
-    (read : body_of meta doc.body ≡ Ok body) (closes : Closes doc.closed d body (Ok p)) (names : HasNamesOfBytes (function_of d body)) (again : Maps)
-    (n : ℕ) where
+    (plain : doc.linked ≡ false) (read : body_of false meta doc.body ≡ Ok body) (closes : Closes doc.closed d body (Ok p))
+    (names : HasNamesOfBytes (function_of d body)) (again : Maps) (n : ℕ) where
   abbrev ids : List ℕ
   ids = ids_of_objects body.objects d.stack
 
@@ -147,14 +156,14 @@ module _ (meta : Maps) (doc : FunctionDocument) (d : Declarations) (body : Body)
   abbrev Good : Item → Type 0
   Good i = IsKnownItem body.entries i.kind i.loc
 
-  is : IsReadBody (ComesFromLine meta body) body
-  is = body_reads meta doc.body body read
+  is : IsReadBody (ComesFromLine false meta body) body
+  is = plain_body_reads meta doc.body body read
 
   known : IsKnown meta (map (λ (l : Line). l.text) doc.body) body
   known = bodies_are_known meta doc.body body read
 
   sound : IsSound f
-  sound = sound_if_ends_well meta doc d body declared read closes.0 closes.3
+  sound = sound_if_ends_well meta doc d body declared (subst (λ (b : Bool). body_of b meta doc.body ≡ Ok body) (sym plain) read) closes.0 closes.3
 
   bared : IsSound (stripped f)
   bared = stripped_sound f sound
@@ -163,8 +172,8 @@ module _ (meta : Maps) (doc : FunctionDocument) (d : Declarations) (body : Body)
   closed = closes_all d body closes.0
 
   good : AllItems Good bs
-  good = All-weaker (IsReadBlock (ComesFromLine meta body)) (λ (b : Block). All Good b.items)
-      (λ b r. All-weaker (λ i. ComesFromLine meta body i.kind i.loc) Good
+  good = All-weaker (IsReadBlock (ComesFromLine false meta body)) (λ (b : Block). All Good b.items)
+      (λ b r. All-weaker (λ i. ComesFromLine false meta body i.kind i.loc) Good
       (λ i from. item_known meta body.entries i.kind i.loc from.form from.item from.text from.says from.judged from.kind_is from.loc_is from.entries)
       b.items r.each)
       bs is.blocks
@@ -197,7 +206,12 @@ module _ (meta : Maps) (doc : FunctionDocument) (d : Declarations) (body : Body)
   readable : All (IsReadableItem again) (items_of sb)
   readable = blocks_left ids (λ k l. IsKnownItem body.entries k l × HasByteNames (kind_as ids k)) (IsReadableItem again)
       (λ c k o l q. record {
-        writable = record { kind = (code_limited ids body.entries c q.0.kind_is, tt, code_read ids body.entries c q.0.kind_is); loc = q.0.place; names = q.1 };
+        writable = record {
+          kind = (code_limited ids body.entries c q.0.kind_is, tt);
+          language = (code_language ids body.entries c q.0.kind_is, code_read ids body.entries c q.0.kind_is);
+          loc = q.0.place;
+          names = q.1;
+        };
         readable = code_is ids body.entries c q.0.kind_is;
       }) bs (both_items Good NameBytes bs good named)
 
@@ -208,7 +222,7 @@ module _ (meta : Maps) (doc : FunctionDocument) (d : Declarations) (body : Body)
   within = record {
     apart = bared.blocks_apart;
     ids = All-map (λ (b : Block). b.id ≤ MAX_NUMBER) stripped_block (blocks_as ids bs)
-        (blocks_small ids bs (subst (λ (ns : List ℕ). All (λ k. k ≤ MAX_NUMBER) ns) is.ids (ids_small meta doc.body body read)));
+        (blocks_small ids bs (subst (λ (ns : List ℕ). All (λ k. k ≤ MAX_NUMBER) ns) is.ids (ids_small false meta doc.body body read)));
     once = bared.numbers;
     few_blocks = bared.few_blocks;
     few_items = (let less = fewer ids bs in omega (arith, less, is.counted, is.few));
@@ -249,7 +263,7 @@ module _ (meta : Maps) (doc : FunctionDocument) (d : Declarations) (body : Body)
   frame = frames_read_back body.objects body2.objects d.stack entries same_named
 
   abbrev declared2 : Declarations
-  declared2 = record { name = d.name; stack = entries_again body.objects d.stack; substitutions = [] }
+  declared2 = record { name = d.name; stack = entries_again body.objects d.stack; substitutions = []; pool = [] }
 
   abbrev ids2 : List ℕ
   ids2 = ids_of_objects body2.objects declared2.stack
@@ -271,8 +285,8 @@ module _ (meta : Maps) (doc : FunctionDocument) (d : Declarations) (body : Body)
       let name = names_read_back (n + 1) d.name names.name in
       let stack = stacks_read_back (n + 2) f.slots f.objects frame.declared.each frame.declared.several frame.declared.apart
       frame.declared.few in
-      λ i. checked (earlier (earlier (name i).refused (stack i).refused) (earlier (no_fixed i) (no_substitutions i).refused))
-      (record { name = (name i).name; stack = (stack i).entries; substitutions = (no_substitutions i).entries })
+      λ i. checked (earlier (earlier (earlier (name i).refused (stack i).refused) (earlier (no_fixed i) (no_substitutions i).refused)) None)
+      (record { name = (name i).name; stack = (stack i).entries; substitutions = (no_substitutions i).entries; pool = [] })
 
   -- ---- its close
 
@@ -294,9 +308,13 @@ module _ (meta : Maps) (doc : FunctionDocument) (d : Declarations) (body : Body)
   accesses = parts_some (stays (laid_out body2.objects declared2.stack (blocks_of body2))) (laid_out body2.objects declared2.stack (blocks_of body2))
       ∙ ((λ i. blocks_stay (frame.objects i) (blocks i)) ∙ all_stay f.objects (blocks_as ids bs) closed.accesses)
 
+  constants : are_known [] (blocks_of body2) ≡ true
+  constants = plain_known again (document_at n (document_of (stripped f))).body body2 reads.read []
+
   none : closing_cause declared2 body2 ≡ None
   none = no_cause (blocks_go_to body2.ids (blocks_of body2)) (all_met (entry_ids declared2.stack) body2.entries)
-      (is_some (parts_of body2.objects declared2.stack (blocks_of body2))) branches all_entries accesses
+      (are_known [] (blocks_of body2) && is_some (parts_of body2.objects declared2.stack (blocks_of body2))) branches all_entries
+      (and_from (are_known [] (blocks_of body2)) (is_some (parts_of body2.objects declared2.stack (blocks_of body2))) constants accesses)
 
   ends : EndWell (function_of declared2 body2).blocks
   ends = subst EndWell (sym blocks) (all_end sb bared.ends, last_placed sb bared.last)
@@ -305,47 +323,52 @@ module _ (meta : Maps) (doc : FunctionDocument) (d : Declarations) (body : Body)
   function_read =
       let doc2 = document_at n (document_of (stripped f)) in
       let answer : Result Parsed ParseError = Ok (record { func = placed (stripped f); subs = [] }) in
-      subst (λ (r : Result Declarations Refusal). ParsesParts doc2.closed r (body_of again doc2.body) answer) (sym declares)
+      subst (λ (r : Result Declarations Refusal). ParsesParts doc2.closed r (body_of false again doc2.body) answer) (sym declares)
       (subst (λ (r : Result Body Refusal). ParsesParts doc2.closed (Ok declared2) r answer) (sym reads.read) (none, sym same_function, refl, ends))
 
 module _ (meta : Maps) (doc : FunctionDocument) (d : Declarations) (body : Body) (p : Parsed) (declared : declarations_of doc ≡ Ok d)
-    (read : body_of meta doc.body ≡ Ok body) (closes : Closes doc.closed d body (Ok p)) (names : HasNamesOfBytes (function_of d body)) where
+    (plain : doc.linked ≡ false) (read : body_of false meta doc.body ≡ Ok body) (closes : Closes doc.closed d body (Ok p))
+    (names : HasNamesOfBytes (function_of d body)) where
   written : All IsWritable (items_of (left_blocks (ids_of_objects body.objects d.stack) (blocks_of body)))
   written = blocks_left (ids_of_objects body.objects d.stack)
       (λ k l. IsKnownItem body.entries k l × HasByteNames (kind_as (ids_of_objects body.objects d.stack) k)) IsWritable
       (λ c k o l q. record {
-        kind = (
-          code_limited (ids_of_objects body.objects d.stack) body.entries c q.0.kind_is,
-          tt,
+        kind = (code_limited (ids_of_objects body.objects d.stack) body.entries c q.0.kind_is, tt);
+        language = (
+          code_language (ids_of_objects body.objects d.stack) body.entries c q.0.kind_is,
           code_read (ids_of_objects body.objects d.stack) body.entries c q.0.kind_is,
         );
         loc = q.0.place;
         names = q.1;
       })
       (blocks_of body)
-      (both_items (Good meta doc d body p declared read closes names meta 0) (NameBytes meta doc d body p declared read closes names meta 0) (blocks_of body)
-      (good meta doc d body p declared read closes names meta 0) (named meta doc d body p declared read closes names meta 0))
+      (both_items (Good meta doc d body p declared plain read closes names meta 0) (NameBytes meta doc d body p declared plain read closes names meta 0)
+      (blocks_of body)
+      (good meta doc d body p declared plain read closes names meta 0) (named meta doc d body p declared plain read closes names meta 0))
 
   is_document : IsDocument (document_of (stripped (function_of d body)))
   is_document =
-      let frame = frames_read_back body.objects body.objects d.stack (entries meta doc d body p declared read closes names meta 0) (λ m. refl) in
+      let frame = frames_read_back body.objects body.objects d.stack (entries meta doc d body p declared plain read closes names meta 0) (λ m. refl) in
       document_is d.name (function_of d body).slots (function_of d body).objects (left_blocks (ids_of_objects body.objects d.stack) (blocks_of body)) names.name
-      frame.declared.each (within meta doc d body p declared read closes names meta 0).ids written
+      frame.declared.each (within meta doc d body p declared plain read closes names meta 0).ids written
 
   read_again : IsReadAgain (record { func = function_of d body; subs = p.subs })
   read_again = record {
     document = is_document;
-    parses = λ again n. function_read meta doc d body p declared read closes names again n;
+    parses = λ again n. function_read meta doc d body p declared plain read closes names again n;
   }
 
 by_parts : (meta : Maps) (doc : FunctionDocument) (p : Parsed) (d : Result Declarations Refusal) (body : Result Body Refusal) →
-    declarations_of doc ≡ d → body_of meta doc.body ≡ body → ParsesParts doc.closed d body (Ok p) → HasNamesOfBytes p.func → IsReadAgain p
-by_parts meta doc p (Ok d) (Ok body) declared read closes names =
+    declarations_of doc ≡ d → doc.linked ≡ false → body_of false meta doc.body ≡ body → ParsesParts doc.closed d body (Ok p) → HasNamesOfBytes p.func →
+    IsReadAgain p
+by_parts meta doc p (Ok d) (Ok body) declared plain read closes names =
     subst (λ (g : Function). IsReadAgain (record { func = g; subs = p.subs })) (sym closes.1)
-    (read_again meta doc d body p declared read closes (subst HasNamesOfBytes closes.1 names))
-by_parts meta doc p (Ok d) (Err s) declared read refused names = absurd refused
-by_parts meta doc p (Err r) (Ok body) declared read refused names = absurd refused
-by_parts meta doc p (Err r) (Err s) declared read refused names = absurd refused
+    (read_again meta doc d body p declared plain read closes (subst HasNamesOfBytes closes.1 names))
+by_parts meta doc p (Ok d) (Err s) declared plain read refused names = absurd refused
+by_parts meta doc p (Err r) (Ok body) declared plain read refused names = absurd refused
+by_parts meta doc p (Err r) (Err s) declared plain read refused names = absurd refused
 
 pub functions_read_back : StrippedReadsBack
-functions_read_back meta doc p parses names = by_parts meta doc p (declarations_of doc) (body_of meta doc.body) refl refl parses names
+functions_read_back meta doc p plain parses names =
+    by_parts meta doc p (declarations_of doc) (body_of doc.linked meta doc.body) refl plain
+    (ap (λ (b : Bool). body_of b meta doc.body) (sym plain)) parses names

@@ -5,7 +5,7 @@ use Rattle.std.specs.Prelude.{codes, filter, IfSome, IsTrue}
 use Rattle.std.specs.List.{list_all, flat_map}
 use Rattle.std.specs.Char.{is_ascii_uppercase}
 use Rattle.std.specs.Fmt.{decimal}
-use Rattle.std.proofs.lemmas.Bool.{and_parts, and_from}
+use Rattle.std.proofs.lemmas.Bool.{and_parts, and_from, false≢true}
 use Rattle.std.proofs.lemmas.Bool.Decides.{nat_tests}
 use Rattle.std.proofs.lemmas.List.Elements.{All-head, All-tail, All-filter, All-weaker}
 use Rattle.rv64_instr.specs.declared.operand.Operand.{Operand}
@@ -22,14 +22,15 @@ use Rattle.mir_func.specs.declared.item.ItemKind.TheVariants.{Code, Mark, Phi}
 use Rattle.mir_func.specs.declared.location.Loc.{Loc}
 use Rattle.mir_func.specs.declared.location.Loc.TheVariants.{Absent, Node, Inline}
 use Rattle.read_item.specs.Opcode.{is_read}
-use Rattle.read_program.specs.Limited.{IsLimited, KindIsLimited, LocIsLimited}
+use Rattle.read_program.specs.Limited.{KindIsLimited, LocIsLimited, IsOfLanguage}
+use Rattle.read_program.proofs.Operands.{IsLimitedIn, all_in_language}
 use Rattle.read_program.proofs.Lists.{both}
 use Rattle.mir_printer.specs.Spelling.{comma_separated, is_bare, quoted_byte, symbol_text, register_text, operand_text, is_definition}
 use Rattle.mir_printer.specs.Spelling.{definitions_text}
 use Rattle.mir_printer.specs.Spelling.{uses_text, instruction_text, number_text, inlined_at_text, location_text, mark_text, phi_text, kind_text}
 use Rattle.readback_items.specs.Laws.{NameIsBytes, HasByteNames}
 use Rattle.readback_items.proofs.Cuts.{is_safe}
-use Rattle.readback_items.proofs.Opcodes.{is_opcode, mnemonics}
+use Rattle.readback_items.proofs.Opcodes.{is_opcode, mnemonics, named_uses}
 use Rattle.readback_items.specs.Body.{label_line, item_line}
 use Rattle.readback_functions.specs.Printed.{BlockLinesArePrinted}
 use Rattle.readback_functions.proofs.Marks.{number_shows, register_shows, mark_shows, phi_shows}
@@ -49,7 +50,7 @@ symbol_shows (b ∷ bs) bytes = by (list_all is_bare (b ∷ bs)) refl where
   by true all = shows_behind (64 ∷ []) (b ∷ bs) refl (visible_shows b bs (all_visible is_bare bare_visible (b ∷ bs) all))
   by false all = shows_behind (64 ∷ []) (34 ∷ (flat_map quoted_byte (b ∷ bs) ++ 34 ∷ [])) refl (quoted_shows (b ∷ bs) bytes)
 
-operand_shows : (o : Operand) → IsLimited o → NameIsBytes o → Shows (operand_text o)
+operand_shows : (o : Operand) → IsLimitedIn false o → NameIsBytes o → Shows (operand_text o)
 operand_shows (Def r) small bytes = register_shows r small
 operand_shows (Use r) small bytes = register_shows r small
 operand_shows (ImplicitDef r) small bytes = shows_behind (codes "implicit-def ") (register_text r) refl (register_shows r (omega (arith, small)))
@@ -57,14 +58,14 @@ operand_shows (ImplicitUse r) small bytes = shows_behind (codes "implicit ") (re
 operand_shows (Imm i) small bytes = signed_shows i small
 operand_shows (Slot n) small bytes = shows_behind (codes "%stack.") (decimal n) refl (number_shows n small)
 operand_shows (Object n) small bytes = shows_behind (codes "%stack.") (decimal n) refl (number_shows n small)
-operand_shows (Part half y) small bytes = absurd small
+operand_shows (Part half y) small bytes = absurd (false≢true small.0)
 operand_shows (Outgoing n) small bytes = absurd small
 operand_shows (OfBlock n) small bytes = shows_behind (codes "%bb.") (decimal n) refl (number_shows n small)
 operand_shows (Symbol name) small bytes = symbol_shows name bytes
 operand_shows Mask small bytes = record { printed = refl; ends = λ so_far. refl }
 
 record Fits (o : Operand) : Type 0 where
-  limited : IsLimited o
+  limited : IsLimitedIn false o
   bytes : NameIsBytes o
 
 -- operands with commas between them, one at least
@@ -101,14 +102,15 @@ opcode_shows (b ∷ bs) is =
     let second = and_parts (list_all is_word_byte bs) (is_upper (word_of (b ∷ bs)) && list_all is_safe (b ∷ bs)) first.1 in
     visible_shows b bs (and_from (is_visible b) (list_all is_visible bs) (upper_visible b first.0) (all_visible is_word_byte word_visible bs second.0))
 
-instruction_shows : (i : Instruction) → IsTrue (is_read i.op) → All Fits i.operands → Shows (instruction_text i)
+instruction_shows : (i : Instruction) → IsTrue (is_read false i.op) → All Fits i.operands → Shows (instruction_text i)
 instruction_shows i read all =
     let sets = filter is_definition i.operands in
     let uses = filter (λ o. not (is_definition o)) i.operands in
-    shows_before (definitions_text sets ++ mnemonic_of i.op) (uses_text uses)
+    subst (λ (os : List Operand). Shows ((definitions_text sets ++ mnemonic_of i.op) ++ uses_text os)) (sym (named_uses i.op i.operands read))
+    (shows_before (definitions_text sets ++ mnemonic_of i.op) (uses_text uses)
     (shows_behind (definitions_text sets) (mnemonic_of i.op) (definitions_printed sets (All-filter is_definition Fits i.operands all))
     (opcode_shows (mnemonic_of i.op) (mnemonics i.op read)))
-    (uses_show uses (All-filter (λ o. not (is_definition o)) Fits i.operands all))
+    (uses_show uses (All-filter (λ o. not (is_definition o)) Fits i.operands all)))
 
 -- ---- attributes
 
@@ -144,25 +146,26 @@ location_may (Inline l) small =
 
 -- ---- lines
 
-code_shows : (i : Instruction) (k : Option ℕ) (loc : Loc) → IsTrue (is_read i.op) → All Fits i.operands → IfSome k (λ n. n ≤ MAX_NUMBER) → LocIsLimited loc →
+code_shows : (i : Instruction) (k : Option ℕ) (loc : Loc) → IsTrue (is_read false i.op) → All Fits i.operands → IfSome k (λ n. n ≤ MAX_NUMBER) →
+    LocIsLimited loc →
     Shows ((instruction_text i ++ number_text k) ++ location_text loc)
 code_shows i k loc read all small place =
     shows_before (instruction_text i ++ number_text k) (location_text loc)
     (shows_before (instruction_text i) (number_text k) (instruction_shows i read all) (number_may k small)) (location_may loc place)
 
-fitting : (os : List Operand) → All IsLimited os → All NameIsBytes os → All Fits os
-fitting os limited bytes = All-weaker (λ o. IsLimited o × NameIsBytes o) Fits (λ o each. record { limited = each.0; bytes = each.1 }) os
-    (both IsLimited NameIsBytes os limited bytes)
+fitting : (os : List Operand) → All (IsLimitedIn false) os → All NameIsBytes os → All Fits os
+fitting os limited bytes = All-weaker (λ o. IsLimitedIn false o × NameIsBytes o) Fits (λ o each. record { limited = each.0; bytes = each.1 }) os
+    (both (IsLimitedIn false) NameIsBytes os limited bytes)
 
-item_shows : (kind : ItemKind) (loc : Loc) → KindIsLimited kind → HasByteNames kind → LocIsLimited loc →
+item_shows : (kind : ItemKind) (loc : Loc) → KindIsLimited kind → IsOfLanguage false kind → HasByteNames kind → LocIsLimited loc →
     Shows (codes "    " ++ (kind_text kind ++ location_text loc))
-item_shows (Code i k) loc small bytes place =
+item_shows (Code i k) loc small language bytes place =
     shows_behind (codes "    ") ((instruction_text i ++ number_text k) ++ location_text loc) refl
-    (code_shows i k loc small.2 (fitting i.operands small.0 bytes) small.1 place)
-item_shows (Mark v m) loc small bytes place =
+    (code_shows i k loc language.1 (fitting i.operands (all_in_language false i.operands small.0 language.0) bytes) small.1 place)
+item_shows (Mark v m) loc small language bytes place =
     shows_behind (codes "    ") (mark_text v m ++ location_text loc) refl
     (shows_before (mark_text v m) (location_text loc) (mark_shows v m small.0 small.1) (location_may loc place))
-item_shows (Phi p k) loc small bytes place =
+item_shows (Phi p k) loc small language bytes place =
     shows_behind (codes "    ") (phi_text p k ++ location_text loc) refl
     (shows_before (phi_text p k) (location_text loc) (phi_shows p k small.0 small.1) (location_may loc place))
 
@@ -170,5 +173,5 @@ pub block_lines_are_printed : BlockLinesArePrinted
 block_lines_are_printed = record {
   labels = λ n small. line_of (label_line n) (shows_behind (codes "  bb." ++ decimal n) (codes ":")
       (shows_behind (codes "  bb.") (decimal n) refl (number_shows n small)).printed (record { printed = refl; ends = λ so_far. refl }));
-  items = λ i is. line_of (item_line i) (item_shows i.kind i.loc is.kind is.names is.loc);
+  items = λ i is. line_of (item_line i) (item_shows i.kind i.loc is.kind is.language is.names is.loc);
 }

@@ -4,7 +4,7 @@ use Rattle.std.proofs.Common.{Result, Ok, Err}
 use Rattle.std.proofs.Common.{refl, sym, ap, subst, ◌∙◌, arith, append_assoc, append-nil, inl, inr}
 use Rattle.std.specs.Prelude.{Contains, IfSome, option_map}
 use Rattle.std.specs.List.{list_any}
-use Rattle.std.proofs.lemmas.Bool.{or_parts, ltb-false, or_left, or_right, cases_Bool, cond-true, cond-false}
+use Rattle.std.proofs.lemmas.Bool.{false≢true, or_parts, ltb-false, or_left, or_right, cases_Bool, cond-true, cond-false}
 use Rattle.std.proofs.lemmas.List.Concat.{flat_map-append}
 use Rattle.std.proofs.lemmas.List.Elements.{All-nil, All-head, All-tail, All-push, All-cons, All-weaker, All-same, All-contains_itself}
 use Rattle.std.proofs.lemmas.List.Folds.{list_any-append}
@@ -31,12 +31,13 @@ use Rattle.read_item.specs.declared.judged.Judged.TheVariants as judged_as
 use Rattle.read_item.specs.Judge.{judged}
 use Rattle.read_body.specs.declared.body.Body.{Body}
 use Rattle.read_body.specs.Body.{constant_of, object_named, nothing_read, and_last, blocks_of, label_cause, with_label, repeats, block_with}
-use Rattle.read_body.specs.Body.{with_number, with_constant, with_variable}
+use Rattle.read_body.specs.Body.{with_closed, with_number, with_constant, with_variable}
 use Rattle.read_body.specs.Body.{with_item, exceeds, item_cause}
 use Rattle.read_body.specs.Limits.{MAX_ITEMS, MAX_VARIABLES, MAX_NUMBERS, MAX_CONSTANTS}
 use Rattle.read_body.specs.FirstUseOrder.{is_met, met, is_known, known}
 use Rattle.read_program.specs.BodyLines.{judged_said, item_said, line_said, behind_line, and_then, body_behind}
 use Rattle.read_program.proofs.Bodies.{facts_apart, numbers_keep, unless_ok}
+use Rattle.read_program.proofs.Judged.{two_is_linked}
 use Rattle.read_program.proofs.Lists.{met_keeps, met_has}
 use Rattle.readback_items.specs.Body.{VariableIn}
 use Rattle.readback_items.proofs.Facts.{Facts, item_facts, objects_behind}
@@ -242,7 +243,8 @@ module _ (meta : Maps) (texts : List (List ℕ)) where
   -- ---- lines
 
   judged_known : (body next : Body) (b : Block) (text : List ℕ) (form : ItemForm) → Contains texts text → body.last ≡ Some b →
-      body_line_of text ≡ Ok (lines.Item form) → (read : Result Judged RefusalKind) → judged meta form ≡ read → judged_said body form.number read ≡ Ok next →
+      body_line_of false text ≡ Ok (lines.Item form) → (read : Result Judged RefusalKind) → judged false meta form ≡ read →
+      judged_said body form.number read ≡ Ok next →
       Known body → Known next
   judged_known body next b text form there last says (Ok judged_as.Passed) is e known = let same : body ≡ next = cc in subst Known same known
   judged_known body next b text form there last says (Ok (judged_as.Item j)) is e known =
@@ -256,16 +258,33 @@ module _ (meta : Maps) (texts : List (List ℕ)) where
         means = is;
         is = refl;
       }) read.0 known)
+  judged_known body next b text form there last says (Ok (judged_as.Two one two)) is e known = absurd (false≢true (two_is_linked false meta form one two is))
   judged_known body next b text form there last says (Err kind) is e known = absurd cc
 
-  item_line_known : (body next : Body) (text : List ℕ) (form : ItemForm) → Contains texts text → body_line_of text ≡ Ok (lines.Item form) →
-      (last : Option Block) → body.last ≡ last → item_said meta body last form ≡ Ok next → Known body → Known next
+  item_line_known : (body next : Body) (text : List ℕ) (form : ItemForm) → Contains texts text → body_line_of false text ≡ Ok (lines.Item form) →
+      (last : Option Block) → body.last ≡ last → item_said false meta body last form ≡ Ok next → Known body → Known next
   item_line_known body next text form there says None last e known = absurd cc
-  item_line_known body next text form there says (Some b) last e known = judged_known body next b text form there last says (judged meta form) refl e known
+  item_line_known body next text form there says (Some b) last e known = judged_known body next b text form there last says (judged false meta form) refl e
+      known
 
-  said_known : (body next : Body) (text : List ℕ) → Contains texts text → (read : Result BodyLine FormError) → body_line_of text ≡ read →
-      line_said meta body read ≡ Ok next → Known body → Known next
+  closed_known : (body : Body) (last : Option Block) → Known body → Known (with_closed body last)
+  closed_known body None known = known
+  closed_known body (Some b) known = record {
+    each = known.each;
+    objects = known.objects;
+    constants = known.constants;
+    few = known.few;
+    numbers = known.numbers;
+    few_numbers = known.few_numbers;
+    variables = known.variables;
+    few_variables = known.few_variables;
+  }
+
+  said_known : (body next : Body) (text : List ℕ) → Contains texts text → (read : Result BodyLine FormError) → body_line_of false text ≡ read →
+      line_said false meta body read ≡ Ok next → Known body → Known next
   said_known body next text there (Ok lines.Passed) says e known = let same : body ≡ next = cc in subst Known same known
+  said_known body next text there (Ok lines.Closed) says e known =
+      let same : with_closed body body.last ≡ next = cc in subst Known same (closed_known body body.last known)
   said_known body next text there (Ok (lines.Label None)) says e known = absurd cc
   said_known body next text there (Ok (lines.Label (Some n))) says e known =
       let read = unless_ok (label_cause body n) (with_label body n) next e in subst Known read.1 (label_known body n known)
@@ -273,16 +292,16 @@ module _ (meta : Maps) (texts : List (List ℕ)) where
   said_known body next text there (Err kind) says e known = absurd cc
 
   lines_known_from : (end body : Body) (l : Line) (ls : List Line) → Contains texts l.text → Known body → (read : Result Body RefusalKind) →
-      behind_line meta body l.text ≡ read → ((next : Body) → Known next → body_behind meta next ls ≡ Ok end → Known end) →
-      and_then l.number read (λ b. body_behind meta b ls) ≡ Ok end → Known end
-  lines_known_from end body l ls there known (Ok next) is more e = more next (said_known body next l.text there (body_line_of l.text) refl is known) e
+      behind_line false meta body l.text ≡ read → ((next : Body) → Known next → body_behind false meta next ls ≡ Ok end → Known end) →
+      and_then l.number read (λ b. body_behind false meta b ls) ≡ Ok end → Known end
+  lines_known_from end body l ls there known (Ok next) is more e = more next (said_known body next l.text there (body_line_of false l.text) refl is known) e
   lines_known_from end body l ls there known (Err kind) is more e = absurd cc
 
-  lines_known : (end body : Body) (ls : List Line) → All (λ l. Contains texts l.text) ls → Known body → body_behind meta body ls ≡ Ok end → Known end
+  lines_known : (end body : Body) (ls : List Line) → All (λ l. Contains texts l.text) ls → Known body → body_behind false meta body ls ≡ Ok end → Known end
   unfolding body_behind
   lines_known end body [] there known e = let same : body ≡ end = cc in subst Known same known
   lines_known end body (l ∷ ls) there known e =
-      lines_known_from end body l ls (All-head (λ (x : Line). Contains texts x.text) l ls there) known (behind_line meta body l.text) refl
+      lines_known_from end body l ls (All-head (λ (x : Line). Contains texts x.text) l ls there) known (behind_line false meta body l.text) refl
       (λ next k f. lines_known end next ls (All-tail (λ (x : Line). Contains texts x.text) l ls there) k f) e
 
 texts_there : (all : List (List ℕ)) (ls : List Line) → All (Contains all) (map (λ (l : Line). l.text) ls) → All (λ l. Contains all l.text) ls

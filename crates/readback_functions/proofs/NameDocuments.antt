@@ -1,5 +1,5 @@
 -- The lines of the documents of lines of bytes.
-use Rattle.std.proofs.Common.{ℕ, zero, suc, ◌+◌, Bool, true, false, cond, List, [], ◌∷◌, ◌++◌, length, All, Option, Some, None}
+use Rattle.std.proofs.Common.{◌≡◌, refl, ℕ, zero, suc, ◌+◌, Bool, true, false, cond, List, [], ◌∷◌, ◌++◌, length, All, Option, Some, None}
 use Rattle.std.specs.Prelude.{is_none}
 use Rattle.std.specs.List.{position_or_len}
 use Rattle.std.proofs.lemmas.List.Elements.{All-nil, All-cons, All-head, All-tail, All-take, All-filter}
@@ -15,8 +15,9 @@ use Rattle.read_documents.specs.Lines.{lines_of}
 use Rattle.readback_functions.specs.Bytes.{AreBytes}
 use Rattle.readback_functions.proofs.NameLines.{LineBytes, lines_bytes}
 
--- a document whose name and body are of bytes
+-- a document that isn't of the linked language, whose name and body are of bytes
 pub record DocBytes (doc : FunctionDocument) : Type 0 where
+  pub plain : doc.linked ≡ false
   pub name : All LineBytes doc.name
   pub body : All LineBytes doc.body
 
@@ -36,9 +37,10 @@ inside_bytes : (ls : List Line) → All LineBytes ls → All LineBytes (inside l
 unfolding inside
 inside_bytes ls all = All-take LineBytes (position_or_len (λ l. is_close l.text) ls) ls all
 
-document_bytes : (opened : ℕ) (ls : List Line) (closed : ℕ) → All LineBytes ls → DocBytes (function_document opened ls closed)
+document_bytes : (opened : ℕ) (ls : List Line) (closed : ℕ) → All LineBytes ls → DocBytes (function_document false opened ls closed)
 unfolding function_document
 document_bytes opened ls closed all = record {
+  plain = refl;
   name = under_bytes Name Other ls all;
   body = All-filter (λ (line : Line). is_none (heading line.text)) LineBytes (lines_under Body Other ls) (under_bytes Body Other ls all);
 }
@@ -54,11 +56,11 @@ block_bytes opened ls others all = by (is_closed ls) where
   by true = all
   by false = All-nil DocBytes
 
-function_bytes : (opened : ℕ) (ls : List Line) (others : Documents) → All LineBytes ls → AllBytes others → AllBytes (function_from opened ls others)
+function_bytes : (opened : ℕ) (ls : List Line) (others : Documents) → All LineBytes ls → AllBytes others → AllBytes (function_from false opened ls others)
 unfolding function_from
-function_bytes opened ls others lines all = by (first_fault [] (inside ls)) (is_complete (inside ls)) (is_closed ls) where
+function_bytes opened ls others lines all = by (first_fault false [] (inside ls)) (is_complete (inside ls)) (is_closed ls) where
   whole : FunctionDocument
-  whole = function_document opened (inside ls) (opened + length (inside ls) + 1)
+  whole = function_document false opened (inside ls) (opened + length (inside ls) + 1)
 
   by : (fault : Option ℕ) (complete closed : Bool) →
       AllBytes (fault_or fault (cond complete (cond closed (record others { functions = whole ∷ others.functions }) (stops (opened + length ls)))
@@ -68,7 +70,7 @@ function_bytes opened ls others lines all = by (first_fault [] (inside ls)) (is_
   by None true false = All-nil DocBytes
   by None true true = All-cons DocBytes whole others.functions (document_bytes opened (inside ls) (opened + length (inside ls) + 1) (inside_bytes ls lines)) all
 
-from_bytes : (skipped : ℕ) (had : Bool) (ls : List Line) → All LineBytes ls → AllBytes (documents_from skipped had ls)
+from_bytes : (skipped : ℕ) (had : Bool) (ls : List Line) → All LineBytes ls → AllBytes (documents_from false skipped had ls)
 unfolding documents_from
 from_bytes zero had [] all = All-nil DocBytes
 from_bytes (suc skipped) had [] all = All-nil DocBytes
@@ -80,16 +82,16 @@ from_bytes zero had (l ∷ ls) all =
     rest : All LineBytes ls
     rest = All-tail LineBytes l ls all
 
-    by : (passed block twice function : Bool) → AllBytes (documents_from 0 had ls) → AllBytes (documents_from (suc (length (inside ls))) true ls) →
-        AllBytes (documents_from (suc (length (inside ls))) had ls) →
-        AllBytes (cond passed (documents_from 0 had ls)
-        (cond block (cond twice (stops l.number) (block_from l.number ls (documents_from (suc (length (inside ls))) true ls)))
-        (cond function (function_from l.number ls (documents_from (suc (length (inside ls))) had ls)) (stops l.number))))
+    by : (passed block twice function : Bool) → AllBytes (documents_from false 0 had ls) → AllBytes (documents_from false (suc (length (inside ls))) true ls) →
+        AllBytes (documents_from false (suc (length (inside ls))) had ls) →
+        AllBytes (cond passed (documents_from false 0 had ls)
+        (cond block (cond twice (stops l.number) (block_from l.number ls (documents_from false (suc (length (inside ls))) true ls)))
+        (cond function (function_from false l.number ls (documents_from false (suc (length (inside ls))) had ls)) (stops l.number))))
     by true block twice function a b c = a
     by false true true function a b c = All-nil DocBytes
-    by false true false function a b c = block_bytes l.number ls (documents_from (suc (length (inside ls))) true ls) b
-    by false false twice true a b c = function_bytes l.number ls (documents_from (suc (length (inside ls))) had ls) rest c
+    by false true false function a b c = block_bytes l.number ls (documents_from false (suc (length (inside ls))) true ls) b
+    by false false twice true a b c = function_bytes l.number ls (documents_from false (suc (length (inside ls))) had ls) rest c
     by false false twice false a b c = All-nil DocBytes
 
-pub documents_bytes : (text : List ℕ) → AreBytes text → All DocBytes (documents_of text).functions
+pub documents_bytes : (text : List ℕ) → AreBytes text → All DocBytes (documents_of false text).functions
 documents_bytes text bytes = from_bytes 0 false (lines_of text) (lines_bytes text bytes)

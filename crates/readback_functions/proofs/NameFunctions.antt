@@ -1,5 +1,5 @@
 -- The functions of a program were read from documents of the text, and their names are of bytes.
-use Rattle.std.proofs.Common.{◌≡◌, ℕ, ◌+◌, ◌<◌, ◌≤◌, List, [], ◌∷◌, ◌++◌, map, length, All, Option, Some, None, Result, Ok, Err}
+use Rattle.std.proofs.Common.{◌≡◌, Bool, false, ℕ, ◌+◌, ◌<◌, ◌≤◌, List, [], ◌∷◌, ◌++◌, map, length, All, Option, Some, None, Result, Ok, Err}
 use Rattle.std.proofs.Common.{refl, sym, ap, subst, arith, inl, inr}
 use Rattle.std.proofs.lemmas.Bool.{cases_lt}
 use Rattle.std.proofs.lemmas.List.{length-append}
@@ -86,10 +86,10 @@ program_is meta None (Ok fs) p is =
 program_is meta (Some line) (Ok fs) p is = absurd cc
 
 -- the functions of a program that a text of bytes stands for
-pub program_read : (text : List ℕ) (p : Program) → AreBytes text → ReadsText text (Ok p) →
-    AreFew DocBytes (metadata_of (documents_of text).meta) p.functions
+pub program_read : (text : List ℕ) (p : Program) → AreBytes text → ReadsText false text (Ok p) →
+    AreFew DocBytes (metadata_of (documents_of false text).meta) p.functions
 program_read text p bytes reads =
-    let docs = documents_of text in
+    let docs = documents_of false text in
     let meta = metadata_of docs.meta in
     let is = program_is meta docs.bad reads.0 p reads.2 in
     functions_read DocBytes meta docs.functions [] p.functions (documents_bytes text bytes)
@@ -109,7 +109,7 @@ blocks_bytes ids bs all =
     (All-weaker (λ (i : Item). HasByteNames i.kind) (λ (i : Item). HasByteNames (kind_as ids i.kind)) (λ i is. kind_as_bytes ids i.kind is) b.items each))
     bs all)
 
-items_bytes : (meta : Maps) (ls : List Line) (body : Body) → All LineBytes ls → body_of meta ls ≡ Ok body →
+items_bytes : (meta : Maps) (ls : List Line) (body : Body) → All LineBytes ls → body_of false meta ls ≡ Ok body →
     AllItems (λ i. HasByteNames i.kind) (blocks_of body)
 items_bytes meta ls body bytes read =
     split_items (λ i. HasByteNames i.kind) (blocks_of body)
@@ -125,7 +125,7 @@ checked_is (Some r) declared d e = absurd cc
 checked_is None declared d e = cc
 
 by_parts : (meta : Maps) (doc : FunctionDocument) (q : Parsed) (d : Result Declarations Refusal) (body : Result Body Refusal) → declarations_of doc ≡ d →
-    body_of meta doc.body ≡ body → ParsesParts doc.closed d body (Ok q) → DocBytes doc → HasNamesOfBytes q.func
+    body_of false meta doc.body ≡ body → ParsesParts doc.closed d body (Ok q) → DocBytes doc → HasNamesOfBytes q.func
 by_parts meta doc q (Ok d) (Ok body) declared read closes bytes =
     let same = checked_is (refusal_of doc) (declared_of doc) d declared in
     subst HasNamesOfBytes (sym closes.1) (record {
@@ -138,7 +138,8 @@ by_parts meta doc q (Err r) (Err s) declared read refused bytes = absurd refused
 
 pub names_are_of_bytes : NamesAreOfBytes
 names_are_of_bytes text p bytes reads =
-    let meta = metadata_of (documents_of text).meta in
+    let meta = metadata_of (documents_of false text).meta in
     All-weaker (WasRead DocBytes meta) (λ (q : Parsed). HasNamesOfBytes q.func)
-    (λ q was. by_parts meta was.doc q (declarations_of was.doc) (body_of meta was.doc.body) refl refl was.parses was.is) p.functions
+    (λ q was. by_parts meta was.doc q (declarations_of was.doc) (body_of was.doc.linked meta was.doc.body) refl
+    (ap (λ (b : Bool). body_of b meta was.doc.body) (sym was.is.plain)) was.parses was.is) p.functions
     (program_read text p bytes reads).1

@@ -9,7 +9,7 @@ use Rattle.std.proofs.lemmas.Bool.{and_parts, eqb-true}
 use Rattle.std.proofs.lemmas.List.Elements.{All-nil, All-head, All-tail, All-append}
 use Rattle.read_lexer.specs.declared.line.Line.{Line}
 use Rattle.read_documents.specs.declared.key.Key.{Key}
-use Rattle.read_documents.specs.declared.key.Key.TheVariants.{Name, Stack, FixedStack, DebugValueSubstitutions, Body, Other}
+use Rattle.read_documents.specs.declared.key.Key.TheVariants.{Name, Stack, FixedStack, DebugValueSubstitutions, Constants, ReturnsTwice, Body, Other}
 use Rattle.read_documents.specs.declared.open_function.OpenFunction.{OpenFunction}
 use Rattle.read_documents.specs.declared.scan.Scan.{Scan}
 use Rattle.read_documents.specs.declared.parts.FunctionDocument.{FunctionDocument}
@@ -77,10 +77,10 @@ indented_line t = record { close = refl; block = refl; function = refl }
 
 module _ (fs : List FunctionDocument) where
   abbrev outside : Scan
-  outside = record { had_block = false; in_block = false; function = None; meta = []; functions = fs }
+  outside = record { linked = false; had_block = false; in_block = false; function = None; meta = []; functions = fs }
 
   abbrev within : OpenFunction → Scan
-  within f = record { had_block = false; in_block = false; function = Some f; meta = []; functions = fs }
+  within f = record { linked = false; had_block = false; in_block = false; function = Some f; meta = []; functions = fs }
 
   abbrev go : OpenFunction → ℕ → List (List ℕ) → Documents
   go f last texts = scan (within f) last (lines_from (last + 1) texts)
@@ -94,7 +94,14 @@ module _ (fs : List FunctionDocument) where
   one f last text texts closes can =
       let line = line_at last text in
       let rest = lines_from (last + 1 + 1) texts in
-      let closing : Scan = record { had_block = false; in_block = false; function = None; meta = []; functions = fs ++ closed_at f (last + 1) ∷ [] } in
+      let closing : Scan = record {
+        linked = false;
+        had_block = false;
+        in_block = false;
+        function = None;
+        meta = [];
+        functions = fs ++ closed_at f (last + 1) ∷ [];
+      } in
       ap (λ (b : Bool). scan_or_stop (within f) (cond b (cond (can_close f) None (Some f.opened)) (cond (can_not_take f text) (Some (last + 1)) None))
       (scan (cond b closing (within (taken f line))) (last + 1) rest)) closes
       ∙ ap (λ (b : Bool). scan_or_stop (within f) (cond b (Some (last + 1)) None) (scan (within (taken f line)) (last + 1) rest)) can
@@ -130,6 +137,8 @@ module _ (fs : List FunctionDocument) where
   same_key f Stack line = refl
   same_key f FixedStack line = refl
   same_key f DebugValueSubstitutions line = refl
+  same_key f Constants line = refl
+  same_key f ReturnsTwice line = refl
   same_key f Body line = refl
   same_key f Other line = refl
 
@@ -153,12 +162,15 @@ module _ (fs : List FunctionDocument) where
 abbrev state : (opened : ℕ) (key : Key) (has_body : Bool) (name stack substitutions body : List Line) → OpenFunction
 state opened key has_body name stack substitutions body = record {
   opened = opened;
+  linked = false;
   key = key;
   has_body = has_body;
   name = name;
   stack = stack;
   fixed = [];
   substitutions = substitutions;
+  constants = [];
+  twice = [];
   body = body;
 }
 
@@ -221,7 +233,7 @@ module _ (fs : List FunctionDocument) (opened : ℕ) (name : List Line) where
 -- ---- a document
 
 module _ (fs : List FunctionDocument) (last : ℕ) where
-  opens : (texts : List (List ℕ)) → scan (outside fs) last (lines_from (last + 1) (codes "---" ∷ texts)) ≡ go fs (just_opened (last + 1)) (last + 1) texts
+  opens : (texts : List (List ℕ)) → scan (outside fs) last (lines_from (last + 1) (codes "---" ∷ texts)) ≡ go fs (just_opened false (last + 1)) (last + 1) texts
   unfolding scan opens_block opens_function
   opens texts = refl
 
@@ -242,10 +254,13 @@ closed_is : (opened : ℕ) (key : Key) (d : Document) (a b c e : ℕ) → a ≡ 
 closed_is opened key d a b c e p q r s = λ i. record {
   opened = opened;
   closed = s i;
+  linked = false;
   name = lines_from (opened + 1) (d.name ∷ []);
   stack = lines_from (p i) d.stack;
   fixed = [];
   substitutions = lines_from (q i) d.substitutions;
+  constants = [];
+  twice = [];
   body = lines_from (r i) d.body;
 }
 
@@ -254,7 +269,7 @@ one_document : (fs : List FunctionDocument) (last : ℕ) (d : Document) (rest : 
     ≡ scan (outside (fs ++ document_at (last + 1) d ∷ [])) (last + size_of d) (lines_from (last + size_of d + 1) rest)
 one_document fs last d rest is =
     opens fs last (d.name ∷ (behind_name d ++ rest))
-    ∙ key_taken fs (just_opened opened) opened d.name (behind_name d ++ rest) Name is.name refl
+    ∙ key_taken fs (just_opened false opened) opened d.name (behind_name d ++ rest) Name is.name refl
     ∙ ap (go fs (state opened Name false name [] [] []) (opened + 1)) (append_assoc d.stack (d.substitutions ++ tail) rest
     ∙ ap (λ (l : List (List ℕ)). d.stack ++ l) (append_assoc d.substitutions tail rest
     ∙ ap (λ (l : List (List ℕ)). d.substitutions ++ codes "body: |" ∷ l) (append_assoc d.body (codes "..." ∷ []) rest)))
@@ -320,6 +335,6 @@ all_lines (d ∷ ds) all = All-append IsLine (document_lines d) (flat_map docume
 
 pub documents_read_back : DocumentsReadBack
 documents_read_back ds all =
-    sym (scan-lines_of (text_of_lines (flat_map document_lines ds)))
-    ∙ ap (scan start 0) (lines_are (flat_map document_lines ds) (all_lines ds all))
+    sym (scan-lines_of false (text_of_lines (flat_map document_lines ds)))
+    ∙ ap (scan (start false) 0) (lines_are (flat_map document_lines ds) (all_lines ds all))
     ∙ all_documents ds [] 0 all

@@ -1,5 +1,5 @@
 -- The printed documents of functions, and what they are read as.
-use Rattle.std.specs.Prelude.{◌≡◌, ℕ, ◌+◌, Bool, true, not, ◌&&◌, ◌==◌, nat_le, codes, List, [], ◌∷◌, ◌++◌, length, All, Some, None}
+use Rattle.std.specs.Prelude.{◌≡◌, false, ℕ, ◌+◌, Bool, true, not, ◌&&◌, ◌==◌, nat_le, codes, List, [], ◌∷◌, ◌++◌, length, All, Some, None}
 use Rattle.std.specs.List.{flat_map, list_all}
 use Rattle.read_lexer.specs.declared.line.Line.{Line}
 use Rattle.read_documents.specs.declared.key.Key.{Key}
@@ -72,15 +72,18 @@ pub record IsDocument (d : Document) : Type 0 where
   pub substitutions : IsSection DebugValueSubstitutions d.substitutions
   pub body : All IsIndented d.body
 
--- a document as it is read if it begins at line `n`: the lines of the blocks come after that of the key `body`
+-- a document as it is read if it begins at line `n`, not in the linked language: the lines of the blocks come after that of the key `body`
 abbrev pub document_at : ℕ → Document → FunctionDocument
 document_at n d = record {
   opened = n;
   closed = n + 3 + length d.stack + length d.substitutions + length d.body;
+  linked = false;
   name = lines_from (n + 1) (d.name ∷ []);
   stack = lines_from (n + 2) d.stack;
   fixed = [];
   substitutions = lines_from (n + 2 + length d.stack) d.substitutions;
+  constants = [];
+  twice = [];
   body = lines_from (n + 3 + length d.stack + length d.substitutions) d.body;
 }
 
@@ -92,4 +95,4 @@ documents_at n (d ∷ ds) = document_at n d ∷ documents_at (n + 4 + length d.s
 -- The text of function documents is read as these documents, without a fault and without metadata.
 abbrev pub DocumentsReadBack : Type 0
 DocumentsReadBack = (ds : List Document) → All IsDocument ds →
-    documents_of (text_of_lines (flat_map document_lines ds)) ≡ record { meta = []; functions = documents_at 1 ds; bad = None }
+    documents_of false (text_of_lines (flat_map document_lines ds)) ≡ record { meta = []; functions = documents_at 1 ds; bad = None }

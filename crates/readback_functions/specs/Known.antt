@@ -28,9 +28,9 @@ pub record IsOfLine (meta : Maps) (texts : List (List ℕ)) (kind : ItemKind) : 
   pub text : List ℕ
   pub there : Contains texts text
   pub form : ItemForm
-  pub says : body_line_of text ≡ Ok (OfItem form)
+  pub says : body_line_of false text ≡ Ok (OfItem form)
   pub item : JudgedItem
-  pub means : judged meta form ≡ Ok (judged_as.Item item)
+  pub means : judged false meta form ≡ Ok (judged_as.Item item)
   pub is : item.kind ≡ kind
 
 -- The invariants of a body: each item comes from a line, its recorded stack objects are exactly those that an item names, and all constants, debug
@@ -47,4 +47,4 @@ pub record IsKnown (meta : Maps) (texts : List (List ℕ)) (body : Body) : Type 
 
 -- Every body that was read has these invariants.
 abbrev pub BodiesAreKnown : Type 0
-BodiesAreKnown = (meta : Maps) (lines : List Line) (body : Body) → body_of meta lines ≡ Ok body → IsKnown meta (map (λ (l : Line). l.text) lines) body
+BodiesAreKnown = (meta : Maps) (lines : List Line) (body : Body) → body_of false meta lines ≡ Ok body → IsKnown meta (map (λ (l : Line). l.text) lines) body

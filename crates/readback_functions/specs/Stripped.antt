@@ -1,5 +1,5 @@
 -- The printed document of a function without its debug items, and what it is read as.
-use Rattle.std.specs.Prelude.{ℕ, ◌+◌, ◌<◌, List, [], ◌∷◌, length, map, All, Ok}
+use Rattle.std.specs.Prelude.{◌≡◌, ℕ, false, ◌+◌, ◌<◌, List, [], ◌∷◌, length, map, All, Ok}
 use Rattle.read_metadata.specs.Maps.{Maps}
 use Rattle.read_documents.specs.declared.parts.FunctionDocument.{FunctionDocument}
 use Rattle.mir_func.specs.declared.block.Block.{Block}
@@ -55,6 +55,7 @@ pub record IsReadAgain (p : Parsed) : Type 0 where
   pub document : IsDocument (document_of (stripped p.func))
   pub parses : (meta : Maps) (n : ℕ) → Parses meta (document_at n (document_of (stripped p.func))) (Ok (reread p))
 
--- A function that was read, and whose names consist of bytes, is read back without its debug items.
+-- A function that was read, but not in the linked language, and whose names consist of bytes, is read back without its debug items.
 abbrev pub StrippedReadsBack : Type 0
-StrippedReadsBack = (meta : Maps) (doc : FunctionDocument) (p : Parsed) → Parses meta doc (Ok p) → HasNamesOfBytes p.func → IsReadAgain p
+StrippedReadsBack = (meta : Maps) (doc : FunctionDocument) (p : Parsed) → doc.linked ≡ false → Parses meta doc (Ok p) → HasNamesOfBytes p.func →
+    IsReadAgain p

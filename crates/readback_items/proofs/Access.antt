@@ -1,9 +1,11 @@
 -- An access by a stack object isn't one that a slot could stand in.
-use Rattle.std.proofs.Common.{◌≡◌, ℕ, ℤ, Bool, true, false, ◌||◌, List, [], ◌∷◌, ◌++◌, Option, Some, None, refl, sym, ap, ◌∙◌}
+use Rattle.std.proofs.Common.{◌≡◌, ℕ, ℤ, Bool, true, false, ◌||◌, List, [], ◌∷◌, ◌++◌, Option, Some, None, refl, sym, ap, subst, ◌∙◌}
 use Rattle.std.specs.List.{list_any, zip}
 use Rattle.std.proofs.lemmas.Bool.{or_parts}
 use Rattle.rv64_instr.specs.declared.operand.Operand.{Operand}
-use Rattle.rv64_instr.specs.declared.operand.Operand.TheVariants.{Def, Use, Imm, Object}
+use Rattle.rv64_instr.specs.declared.operand.Operand.TheVariants.{Def, Use, Imm, Object, Part}
+use Rattle.rv64_instr.specs.declared.symbol.Half.{Half}
+use Rattle.rv64_instr.specs.declared.symbol.Symbol.{Symbol}
 use Rattle.rv64_instr.specs.Form.{moves_slot}
 use Rattle.read_token.specs.declared.lexeme.Flag.{Flag}
 use Rattle.read_token.specs.declared.lexeme.Flag.TheVariants.{Plain, Implicit, ImplicitDef}
@@ -12,7 +14,8 @@ use Rattle.read_line.specs.declared.form.OperandForm.TheVariants as form
 use Rattle.read_line.specs.declared.form.RegisterForm.{RegisterForm}
 use Rattle.read_item.specs.declared.place.OperandKind.{OperandKind}
 use Rattle.read_item.specs.declared.place.OperandKind.TheVariants as place
-use Rattle.read_item.specs.Code.{number_of, used, stack_operand, number_operand, operand_at, before, joined, set_by, definition, definitions, placed}
+use Rattle.read_item.specs.Code.{number_of, used, stand_in, stack_operand, number_operand, half_operand, operand_at, before, joined, set_by, definition}
+use Rattle.read_item.specs.Code.{definitions, placed}
 use Rattle.read_item.specs.Code.{is_whole_slot, is_misplaced}
 use Rattle.read_item.specs.Place.{address, front, behind}
 
@@ -38,10 +41,21 @@ no_object_number : (i : Option ℤ) (n : ℕ) → number_operand i ≡ Some (Obj
 no_object_number None n e = cc
 no_object_number (Some i) n e = cc
 
+abbrev IsHalf : Operand → Type 0
+IsHalf (Part half y) = Unit {0}
+IsHalf _ = ⊥
+
+-- a half of an address gives nothing else
+half_is : (half : Half) (symbol : Symbol) (addend : Option ℤ) (o : Operand) → half_operand half symbol addend ≡ Some o → IsHalf o
+half_is half symbol None o e = absurd cc
+half_is half symbol (Some i) o e =
+    let same : Part half (record { symbol = symbol; addend = i }) ≡ o = cc in subst IsHalf same tt
+
 -- a slot's place gives no object
 slot_gives : (f : OperandForm) (n : ℕ) → operand_at place.Slot f ≡ Some (Object n) → ⊥
 slot_gives (form.Register r) n e = no_object r.flag (number_of r.flag r.name) n e
 slot_gives (form.Integer i) n e = no_object_number i n e
+slot_gives (form.Part half a) n e = half_is half a.symbol a.addend (Object n) e
 slot_gives f n e = cc
 
 no_number : (flag : Flag) (r : Option ℕ) (i : ℤ) → used flag r ≡ Some (Imm i) → ⊥
@@ -60,6 +74,7 @@ pub number_whole : (width : ℕ) (f : OperandForm) (i : ℤ) → operand_at plac
 number_whole width (form.Register r) i e in_place = absurd (no_number r.flag (number_of r.flag r.name) i e)
 number_whole width (form.Integer n) i e in_place = number_is width n i e
 number_whole width (form.Slot n) i e in_place = absurd cc
+number_whole width (form.Part half a) i e in_place = absurd (half_is half a.symbol a.addend (Imm i) e)
 number_whole width f i e in_place = absurd cc
 
 -- the place of an object's address
@@ -101,10 +116,22 @@ no_set_stack place.Symbol n rd e = cc
 no_set_stack place.Mask n rd e = cc
 no_set_stack place.Implicit n rd e = cc
 
+no_set_stand_in : (p : OperandKind) (rd : ℕ) → stand_in p ≡ Some (Def rd) → ⊥
+no_set_stand_in place.Object rd e = cc
+no_set_stand_in place.Slot rd e = cc
+no_set_stand_in place.Register rd e = cc
+no_set_stand_in place.Number rd e = cc
+no_set_stand_in place.Block rd e = cc
+no_set_stand_in place.Symbol rd e = cc
+no_set_stand_in place.Mask rd e = cc
+no_set_stand_in place.Implicit rd e = cc
+
 no_set : (p : OperandKind) (f : OperandForm) (rd : ℕ) → operand_at p f ≡ Some (Def rd) → ⊥
 no_set p (form.Register r) rd e = no_set_used r.flag (number_of r.flag r.name) rd e
 no_set p (form.Integer i) rd e = no_set_number i rd e
 no_set p (form.Slot n) rd e = no_set_stack p n rd e
+no_set p (form.Fixed n) rd e = no_set_stand_in p rd e
+no_set p (form.Part half a) rd e = half_is half a.symbol a.addend (Def rd) e
 no_set p f rd e = cc
 
 -- what is behind operands, which is a list that begins with others

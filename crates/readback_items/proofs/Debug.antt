@@ -1,5 +1,5 @@
 -- The operands of debug lines: expressions and references.
-use Rattle.std.proofs.Common.{◌≡◌, ℕ, pos, ◌+◌, ◌*◌, ◌/◌, ◌%◌, ◌^◌, ◌<◌, ◌≤◌, Bool, true, cond, ◌&&◌, ◌||◌, leb, List, [], ◌∷◌, ◌++◌, replicate}
+use Rattle.std.proofs.Common.{◌≡◌, false, ℕ, pos, ◌+◌, ◌*◌, ◌/◌, ◌%◌, ◌^◌, ◌<◌, ◌≤◌, Bool, true, cond, ◌&&◌, ◌||◌, leb, List, [], ◌∷◌, ◌++◌, replicate}
 use Rattle.std.proofs.Common.{Option, Some, None, refl, sym, subst, ap, ◌∙◌, arith, append_assoc}
 use Rattle.std.specs.Prelude.{codes}
 use Rattle.std.specs.Fmt.{decimal}
@@ -272,7 +272,7 @@ module _ (b : Bytes) (is : IsPart b) where
 -- ---- expressions
 
 expression_at_is : (line : List ℕ) (ls rest : List Lexeme) (e : Expression) → behind_bracket 0 ls ≡ Some rest → expression_of ls ≡ e →
-    operand_at line (lexemes.Expression ∷ lexemes.Open ∷ ls) ≡ Some (form.Expression e, rest)
+    operand_at false line (lexemes.Expression ∷ lexemes.Open ∷ ls) ≡ Some (form.Expression e, rest)
 unfolding operand_at
 expression_at_is line ls rest e behind is =
     ap (λ (o : Option (List Lexeme)). o >>= λ (r : List Lexeme). Some (form.Expression (expression_of ls), r)) behind
@@ -360,7 +360,7 @@ module _ (q : OperandPair) (number_small : q.number ≤ MAX_NUMBER) (operand_sma
   reference_pieces n = piece n class.Word (codes "dbg-instr-ref") ∷ open_bracket ∷ number 0 q.number ∷ comma ∷ number 1 q.operand ∷ close_bracket ∷ []
 
   reference_at_is : (line : List ℕ) (t : Token) (rest : List Lexeme) →
-      operand_at line (lexemes.Word words.InstrRef t ∷ lexemes.Open ∷ lexemes.Integer (Fits (pos q.number)) ∷ lexemes.Comma ∷ lexemes.Integer (Fits
+      operand_at false line (lexemes.Word words.InstrRef t ∷ lexemes.Open ∷ lexemes.Integer (Fits (pos q.number)) ∷ lexemes.Comma ∷ lexemes.Integer (Fits
       (pos q.operand)) ∷ lexemes.Close ∷ rest) ≡ Some (form.Reference q, rest)
   unfolding operand_at word_operand_at
   reference_at_is line t rest =

@@ -1,7 +1,7 @@
 -- Each form of an instruction is read back from its line.
 use Rattle.std.proofs.Common.{◌≡◌, ℕ, ℤ, ◌<◌, Bool, true, false, ◌&&◌, List, [], ◌∷◌, Option, Some, refl, sym, ap, subst, ◌∙◌}
 use Rattle.std.specs.List.{list_all}
-use Rattle.std.proofs.lemmas.Bool.{and_parts}
+use Rattle.std.proofs.lemmas.Bool.{and_parts, false≢true}
 use Rattle.rv64_instr.specs.declared.op.Op.{Op}
 use Rattle.rv64_instr.specs.declared.op.Op.TheVariants.{Registers, Immediate, Lui, Branch, Load, Store, Copy}
 use Rattle.rv64_instr.specs.declared.op.Op.TheVariants.{PseudoBr, PseudoCall, PseudoRet, PseudoCallIndirect}
@@ -20,8 +20,10 @@ use Rattle.rv64_instr.specs.Form.{has_12_bits, is_immediate, is_addi, moves_slot
 use Rattle.rv64_instr.specs.Form.{fits_load, fits_store, fits_copy, fits_jump, fits_call, has_form, is_within}
 use Rattle.std.specs.Prelude.{pos, All}
 use Rattle.std.proofs.lemmas.List.Elements.{All-head, All-tail}
+use Rattle.rv64_instr.specs.declared.symbol.LinkedAddress.{LinkedAddress}
+use Rattle.rv64_instr.specs.declared.symbol.Half.{Half}
 use Rattle.read_item.specs.Opcode.{is_read}
-use Rattle.read_program.specs.Limited.{IsLimited}
+use Rattle.read_program.proofs.Operands.{IsLimitedIn}
 use Rattle.read_token.specs.declared.lexeme.Flag.TheVariants.{Plain}
 use Rattle.read_item.specs.Code.{number_of, used, before, joined, set_by, definition, definitions, placed}
 use Rattle.readback_items.specs.Forms.{register_name, register_form}
@@ -31,11 +33,15 @@ use Rattle.readback_items.proofs.Registers.{number_is}
 use Rattle.readback_items.proofs.Operands.{Gives, given_same, given_slots, given_objects}
 use Rattle.readback_items.proofs.Tails.{Tail, implicits, arguments, results}
 
-second : (a b : Operand) (rest : List Operand) → All IsLimited (a ∷ b ∷ rest) → IsLimited b
-second a b rest small = All-head IsLimited b rest (All-tail IsLimited a (b ∷ rest) small)
+-- operands that aren't of the linked language have no half of an address
+no_part : (half : Half) (y : LinkedAddress) → IsLimitedIn false (Part half y) → ⊥
+no_part half y small = false≢true small.0
 
-third : (a b c : Operand) (rest : List Operand) → All IsLimited (a ∷ b ∷ c ∷ rest) → IsLimited c
-third a b c rest small = second b c rest (All-tail IsLimited a (b ∷ c ∷ rest) small)
+second : (a b : Operand) (rest : List Operand) → All (IsLimitedIn false) (a ∷ b ∷ rest) → IsLimitedIn false b
+second a b rest small = All-head (IsLimitedIn false) b rest (All-tail (IsLimitedIn false) a (b ∷ rest) small)
+
+third : (a b c : Operand) (rest : List Operand) → All (IsLimitedIn false) (a ∷ b ∷ c ∷ rest) → IsLimitedIn false c
+third a b c rest small = second b c rest (All-tail (IsLimitedIn false) a (b ∷ c ∷ rest) small)
 
 -- the registers of a line give their operands
 set_is : (r : ℕ) → r < 4128 → definition (register_form Plain r) ≡ Some (Def r)
@@ -50,11 +56,11 @@ Given op os = Gives op (sets_of os) (uses_of os) (judged_operands op os)
 behind : (b : Bool) (rest : List Operand) → (b && list_all is_implicit rest) ≡ true → Tail rest
 behind b rest e = implicits rest (and_parts b (list_all is_implicit rest) e).1
 
-registers : (op : RegisterOp) (os : List Operand) → fits_registers os ≡ true → All IsLimited os → Given (Registers op) os
+registers : (op : RegisterOp) (os : List Operand) → fits_registers os ≡ true → All (IsLimitedIn false) os → Given (Registers op) os
 unfolding definitions placed
 registers op (Def rd ∷ Use a ∷ Use b ∷ rest) e small =
     let t = implicits rest e in
-    let rd_is = set_is rd (All-head IsLimited (Def rd) (Use a ∷ Use b ∷ rest) small) in
+    let rd_is = set_is rd (All-head (IsLimitedIn false) (Def rd) (Use a ∷ Use b ∷ rest) small) in
     let a_is = use_is a (second (Def rd) (Use a) (Use b ∷ rest) small) in
     let b_is = use_is b (third (Def rd) (Use a) (Use b) rest small) in
     given_same (Registers op) (Def rd ∷ Use a ∷ Use b ∷ []) rest t refl (record {
@@ -96,24 +102,24 @@ addi_only : (op : ImmediateOp) → is_addi op ≡ true → Addi ≡ op
 addi_only Addi e = refl
 addi_only op e = absurd cc
 
-immediate : (op : ImmediateOp) (os : List Operand) → fits_immediate op os ≡ true → All IsLimited os → Given (Immediate op) os
+immediate : (op : ImmediateOp) (os : List Operand) → fits_immediate op os ≡ true → All (IsLimitedIn false) os → Given (Immediate op) os
 immediate op (Def rd ∷ Use a ∷ Imm i ∷ rest) e small =
-    immediate_register op rd a i rest e (All-head IsLimited (Def rd) (Use a ∷ Imm i ∷ rest) small) (second (Def rd) (Use a) (Imm i ∷ rest) small)
+    immediate_register op rd a i rest e (All-head (IsLimitedIn false) (Def rd) (Use a ∷ Imm i ∷ rest) small) (second (Def rd) (Use a) (Imm i ∷ rest) small)
 immediate op (Def rd ∷ Object n ∷ Imm i ∷ rest) e small =
     let parts = and_parts (is_addi op && is_immediate op i) (list_all is_implicit rest) e in
     let is = and_parts (is_addi op) (is_immediate op i) parts.0 in
     let same = addi_only op is.0 in
     subst (λ (o : ImmediateOp). Given (Immediate o) (Def rd ∷ Object n ∷ Imm i ∷ rest)) same
     (address_of_object rd n i rest (subst (λ (o : ImmediateOp). fits_immediate o (Def rd ∷ Object n ∷ Imm i ∷ rest) ≡ true) (sym same) e)
-    (All-head IsLimited (Def rd) (Object n ∷ Imm i ∷ rest) small))
-immediate op (Def rd ∷ Use a ∷ Part Lower y ∷ rest) e small = absurd (third (Def rd) (Use a) (Part Lower y) rest small)
+    (All-head (IsLimitedIn false) (Def rd) (Object n ∷ Imm i ∷ rest) small))
+immediate op (Def rd ∷ Use a ∷ Part Lower y ∷ rest) e small = absurd (no_part Lower y (third (Def rd) (Use a) (Part Lower y) rest small))
 immediate op os e small = absurd cc
 
-upper : (os : List Operand) → fits_upper os ≡ true → All IsLimited os → Given Lui os
+upper : (os : List Operand) → fits_upper os ≡ true → All (IsLimitedIn false) os → Given Lui os
 unfolding definitions placed
 upper (Def rd ∷ Imm i ∷ rest) e small =
     let t = behind (is_within (pos 0) (pos 1048575) i) rest e in
-    let rd_is = set_is rd (All-head IsLimited (Def rd) (Imm i ∷ rest) small) in
+    let rd_is = set_is rd (All-head (IsLimitedIn false) (Def rd) (Imm i ∷ rest) small) in
     given_same Lui (Def rd ∷ Imm i ∷ []) rest t refl (record {
       slot = false;
       slot_is = refl;
@@ -121,14 +127,14 @@ upper (Def rd ∷ Imm i ∷ rest) e small =
       in_place = refl;
       form = e;
     })
-upper (Def rd ∷ Part Upper y ∷ rest) e small = absurd (second (Def rd) (Part Upper y) rest small)
+upper (Def rd ∷ Part Upper y ∷ rest) e small = absurd (no_part Upper y (second (Def rd) (Part Upper y) rest small))
 upper os e small = absurd cc
 
-branch : (op : BranchOp) (os : List Operand) → fits_branch os ≡ true → All IsLimited os → Given (Branch op) os
+branch : (op : BranchOp) (os : List Operand) → fits_branch os ≡ true → All (IsLimitedIn false) os → Given (Branch op) os
 unfolding definitions placed
 branch op (Use a ∷ Use b ∷ Block n ∷ rest) e small =
     let t = implicits rest e in
-    let a_is = use_is a (All-head IsLimited (Use a) (Use b ∷ Block n ∷ rest) small) in
+    let a_is = use_is a (All-head (IsLimitedIn false) (Use a) (Use b ∷ Block n ∷ rest) small) in
     let b_is = use_is b (second (Use a) (Use b) (Block n ∷ rest) small) in
     given_same (Branch op) (Use a ∷ Use b ∷ Block n ∷ []) rest t refl (record {
       slot = false;
@@ -194,13 +200,13 @@ load_object op rd n i rest e rd_small false is =
       form = e;
     })
 
-load : (op : LoadOp) (os : List Operand) → fits_load op os ≡ true → All IsLimited os → Given (Load op) os
+load : (op : LoadOp) (os : List Operand) → fits_load op os ≡ true → All (IsLimitedIn false) os → Given (Load op) os
 load op (Def rd ∷ Use a ∷ Imm i ∷ rest) e small =
-    load_register op rd a i rest e (All-head IsLimited (Def rd) (Use a ∷ Imm i ∷ rest) small) (second (Def rd) (Use a) (Imm i ∷ rest) small)
-load op (Def rd ∷ Slot n ∷ Imm i ∷ rest) e small = load_slot op rd n i rest e (All-head IsLimited (Def rd) (Slot n ∷ Imm i ∷ rest) small)
+    load_register op rd a i rest e (All-head (IsLimitedIn false) (Def rd) (Use a ∷ Imm i ∷ rest) small) (second (Def rd) (Use a) (Imm i ∷ rest) small)
+load op (Def rd ∷ Slot n ∷ Imm i ∷ rest) e small = load_slot op rd n i rest e (All-head (IsLimitedIn false) (Def rd) (Slot n ∷ Imm i ∷ rest) small)
 load op (Def rd ∷ Object n ∷ Imm i ∷ rest) e small =
-    load_object op rd n i rest e (All-head IsLimited (Def rd) (Object n ∷ Imm i ∷ rest) small) (moves_slot (load_width op) i) refl
-load op (Def rd ∷ Use a ∷ Part Lower y ∷ rest) e small = absurd (third (Def rd) (Use a) (Part Lower y) rest small)
+    load_object op rd n i rest e (All-head (IsLimitedIn false) (Def rd) (Object n ∷ Imm i ∷ rest) small) (moves_slot (load_width op) i) refl
+load op (Def rd ∷ Use a ∷ Part Lower y ∷ rest) e small = absurd (no_part Lower y (third (Def rd) (Use a) (Part Lower y) rest small))
 load op os e small = absurd cc
 
 -- ---- stores
@@ -258,22 +264,22 @@ store_object op rs n i rest e rs_small false is =
       form = e;
     })
 
-store : (op : StoreOp) (os : List Operand) → fits_store op os ≡ true → All IsLimited os → Given (Store op) os
+store : (op : StoreOp) (os : List Operand) → fits_store op os ≡ true → All (IsLimitedIn false) os → Given (Store op) os
 store op (Use rs ∷ Use a ∷ Imm i ∷ rest) e small =
-    store_register op rs a i rest e (All-head IsLimited (Use rs) (Use a ∷ Imm i ∷ rest) small) (second (Use rs) (Use a) (Imm i ∷ rest) small)
-store op (Use rs ∷ Slot n ∷ Imm i ∷ rest) e small = store_slot op rs n i rest e (All-head IsLimited (Use rs) (Slot n ∷ Imm i ∷ rest) small)
+    store_register op rs a i rest e (All-head (IsLimitedIn false) (Use rs) (Use a ∷ Imm i ∷ rest) small) (second (Use rs) (Use a) (Imm i ∷ rest) small)
+store op (Use rs ∷ Slot n ∷ Imm i ∷ rest) e small = store_slot op rs n i rest e (All-head (IsLimitedIn false) (Use rs) (Slot n ∷ Imm i ∷ rest) small)
 store op (Use rs ∷ Object n ∷ Imm i ∷ rest) e small =
-    store_object op rs n i rest e (All-head IsLimited (Use rs) (Object n ∷ Imm i ∷ rest) small) (moves_slot (store_width op) i) refl
-store op (Use rs ∷ Use a ∷ Part Lower y ∷ rest) e small = absurd (third (Use rs) (Use a) (Part Lower y) rest small)
+    store_object op rs n i rest e (All-head (IsLimitedIn false) (Use rs) (Object n ∷ Imm i ∷ rest) small) (moves_slot (store_width op) i) refl
+store op (Use rs ∷ Use a ∷ Part Lower y ∷ rest) e small = absurd (no_part Lower y (third (Use rs) (Use a) (Part Lower y) rest small))
 store op os e small = absurd cc
 
 -- ---- others
 
-copy : (os : List Operand) → fits_copy os ≡ true → All IsLimited os → Given Copy os
+copy : (os : List Operand) → fits_copy os ≡ true → All (IsLimitedIn false) os → Given Copy os
 unfolding definitions placed
 copy (Def rd ∷ Use rs ∷ rest) e small =
     let t = implicits rest e in
-    let rd_is = set_is rd (All-head IsLimited (Def rd) (Use rs ∷ rest) small) in
+    let rd_is = set_is rd (All-head (IsLimitedIn false) (Def rd) (Use rs ∷ rest) small) in
     let rs_is = use_is rs (second (Def rd) (Use rs) rest small) in
     given_same Copy (Def rd ∷ Use rs ∷ []) rest t refl (record {
       slot = false;
@@ -297,10 +303,10 @@ jump (Block n ∷ rest) e =
     })
 jump os e = absurd cc
 
-call : (os : List Operand) → fits_call os ≡ true → All IsLimited os → Given PseudoCall os
+call : (os : List Operand) → fits_call os ≡ true → All (IsLimitedIn false) os → Given PseudoCall os
 unfolding definitions placed
 call (Symbol name ∷ Mask ∷ rest) e small =
-    let t = arguments rest e (All-tail IsLimited Mask rest (All-tail IsLimited (Symbol name) (Mask ∷ rest) small)) in
+    let t = arguments rest e (All-tail (IsLimitedIn false) Mask rest (All-tail (IsLimitedIn false) (Symbol name) (Mask ∷ rest) small)) in
     given_same PseudoCall (Symbol name ∷ Mask ∷ []) rest t refl (record {
       slot = false;
       slot_is = refl;
@@ -322,7 +328,7 @@ return' os e =
       form = e;
     })
 
-pub operands_given : (op : Op) (os : List Operand) → has_form op os ≡ true → All IsLimited os → is_read op ≡ true → Given op os
+pub operands_given : (op : Op) (os : List Operand) → has_form op os ≡ true → All (IsLimitedIn false) os → is_read false op ≡ true → Given op os
 operands_given (Registers op) os e small read = registers op os e small
 operands_given (Immediate op) os e small read = immediate op os e small
 operands_given Lui os e small read = upper os e small

@@ -32,7 +32,7 @@ use Rattle.read_line.specs.Attribute.{begins_attribute, attributes_of, attribute
 use Rattle.read_line.specs.Body.{is_listing, code_of, as_item, sentence_of, line_of_tokens, body_line_of}
 use Rattle.read_line.specs.Exceeds.{register_exceeds, operand_exceeds, attributes_exceed, is_wide}
 use Rattle.read_line.specs.Item.{is_upper, is_lower, behind_words, opcode_at, begins_operand, operands_at, operands_of, attributes_of_item, item_with}
-use Rattle.read_line.specs.Item.{defined_item}
+use Rattle.read_line.specs.Item.{is_no_return, says_no_return, defined_item}
 use Rattle.read_line.specs.Item.{definitions_at, item_of}
 use Rattle.read_line.specs.Read.{◌>>=◌}
 use Rattle.read_line.specs.Register.{begins_register}
@@ -54,7 +54,8 @@ use Rattle.readback_items.proofs.Tokens.{Ends}
 record IsUpper (w : Word) : Type 0 where
   lower : is_lower w ≡ false
   register : (t : Token) (ls : List Lexeme) → begins_register (lexemes.Word w t ∷ ls) ≡ false
-  sentence : (line : List ℕ) (t : Token) (ls : List Lexeme) → sentence_of line (lexemes.Word w t ∷ ls) ≡ as_item (item_of line (lexemes.Word w t ∷ ls))
+  sentence : (line : List ℕ) (t : Token) (ls : List Lexeme) → sentence_of false line (lexemes.Word w t ∷ ls) ≡ as_item (item_of false line (lexemes.Word w t ∷
+      ls))
 
 upper_word : (w : Word) → is_upper w ≡ true → IsUpper w
 unfolding begins_register sentence_of
@@ -71,6 +72,10 @@ upper_word words.Line e = absurd cc
 upper_word words.Column e = absurd cc
 upper_word words.Scope e = absurd cc
 upper_word words.InlinedAt e = absurd cc
+upper_word words.NoReturn e = absurd cc
+upper_word words.HighPart e = absurd cc
+upper_word words.LowPart e = absurd cc
+upper_word words.TypeName e = absurd cc
 upper_word (words.Block n) e = absurd cc
 upper_word words.Lower e = absurd cc
 upper_word words.Underscore e = absurd cc
@@ -83,9 +88,9 @@ set_first line r (s ∷ rs) ps ls small (t, more, text, e, lexed) =
     (register_name r, more, e ∙ ap (λ (l : Lexeme). l ∷ more) (register_lexeme r t small))
 
 register_sentence : (line : List ℕ) (ls : List Lexeme) → (name : RegisterName) × (more : List Lexeme) × (ls ≡ lexemes.Register name ∷ more) →
-    sentence_of line ls ≡ as_item (item_of line ls)
+    sentence_of false line ls ≡ as_item (item_of false line ls)
 unfolding sentence_of
-register_sentence line ls (name, more, e) = subst (λ (xs : List Lexeme). sentence_of line xs ≡ as_item (item_of line xs)) (sym e) refl
+register_sentence line ls (name, more, e) = subst (λ (xs : List Lexeme). sentence_of false line xs ≡ as_item (item_of false line xs)) (sym e) refl
 
 -- ---- what stands behind an opcode
 
@@ -139,7 +144,7 @@ module _ (qs : List Phrase) (k : Option ℕ) (loc : Loc) (small : Small k) (at :
   -- operands and attributes are read
   pub record UsesParsed (line : List ℕ) (os : List Phrase) (ls : List Lexeme) : Type 0 where
     pub rest : List Lexeme
-    pub operands : operands_of line ls ≡ Some (forms os, rest)
+    pub operands : operands_of false line ls ≡ Some (forms os, rest)
     pub attributes : attributes_of_item ls rest ≡ Some (attributes_are k loc)
 
   uses_parse : (line : List ℕ) (qs : List Phrase) (ls : List Lexeme) → Lexed line (uses_pieces qs tail) ls → UsesParsed line qs ls
@@ -147,7 +152,7 @@ module _ (qs : List Phrase) (k : Option ℕ) (loc : Loc) (small : Small k) (at :
       let t = tail_parses line k loc ls small at lexed in
       record {
         rest = ls;
-        operands = cond-false (begins_operand ls) (operands_at line (length ls) ls) (Some ([], ls)) t.operand;
+        operands = cond-false (begins_operand ls) (operands_at false line (length ls) ls) (Some ([], ls)) t.operand;
         attributes = cond-false (begins_operand ls) (attributes_behind ls) _ t.operand ∙ (cond-false (begins_attribute ls) (attributes_of ls)
             (attributes_behind ls) t.attribute
             ∙ t.behind);
@@ -159,7 +164,7 @@ module _ (qs : List Phrase) (k : Option ℕ) (loc : Loc) (small : Small k) (at :
       let t = tail_parses line k loc p.rest small at p.lexed in
       record {
         rest = p.rest;
-        operands = cond-true (begins_operand ls) (operands_at line (length ls) ls) (Some ([], ls)) p.operand ∙ p.is;
+        operands = cond-true (begins_operand ls) (operands_at false line (length ls) ls) (Some ([], ls)) p.operand ∙ p.is;
         attributes = cond-true (begins_operand ls) (attributes_behind p.rest) _ p.operand ∙ t.behind;
       }
 
@@ -179,23 +184,34 @@ module _ (qs : List Phrase) (k : Option ℕ) (loc : Loc) (small : Small k) (at :
     abbrev OperandsAt : Type 0
     OperandsAt = List OperandForm × List Lexeme
 
+    -- whether `noreturn` stands before the opcode
+    abbrev said : Token → List Lexeme → Bool
+    said t more = says_no_return (lexemes.Word (word_of text) t ∷ more)
+
+    unsaid : (t : Token) (more : List Lexeme) → said t more ≡ false
+    unfolding says_no_return
+    unsaid t more = ap (λ (b : Bool). cond b (cond (is_no_return (word_of text)) true (says_no_return more)) false) upper.lower
+
     defined_is : (line : List ℕ) (ts : List Lexeme) (ds : List RegisterForm) (t : Token) (more : List Lexeme) → UsesParsed line qs more →
         text_of line t ≡ text →
-        defined_item line ts ds (lexemes.Word (word_of text) t ∷ more) ≡ Some (item_with ts ds text (forms qs) (attributes_are k loc))
+        defined_item false line ts ds (lexemes.Word (word_of text) t ∷ more) ≡ Some (item_with ts ds text (forms qs) false (attributes_are k loc))
     unfolding defined_item behind_words
     defined_is line ts ds t more uses text_is =
-        ap (λ (b : Bool). opcode_at (cond b (behind_words more) (lexemes.Word (word_of text) t ∷ more)) >>= λ (opcode : OpcodeAt). operands_of line opcode.1
+        ap (λ (b : Bool). opcode_at (cond b (behind_words more) (lexemes.Word (word_of text) t ∷ more)) >>= λ (opcode : OpcodeAt). operands_of false line
+        opcode.1
         >>= λ (operands : OperandsAt). attributes_of_item opcode.1 operands.1 >>= λ (attributes : Attributes). Some (item_with ts ds
-        (text_of line opcode.0) operands.0
+        (text_of line opcode.0) operands.0 (said t more)
         attributes)) upper.lower
-        ∙ (ap (λ (b : Bool). cond b (Some (t, more)) None >>= λ (opcode : OpcodeAt). operands_of line opcode.1
+        ∙ (ap (λ (b : Bool). cond b (Some (t, more)) None >>= λ (opcode : OpcodeAt). operands_of false line opcode.1
         >>= λ (operands : OperandsAt). attributes_of_item opcode.1 operands.1 >>= λ (attributes : Attributes). Some (item_with ts ds
-        (text_of line opcode.0) operands.0
+        (text_of line opcode.0) operands.0 (said t more)
         attributes)) op.word
         ∙ (ap (λ (o : Option OperandsAt). o >>= λ (operands : OperandsAt). attributes_of_item more operands.1 >>= λ (attributes : Attributes). Some
-        (item_with ts ds (text_of line t) operands.0 attributes)) uses.operands
-        ∙ (ap (λ (o : Option Attributes). o >>= λ (attributes : Attributes). Some (item_with ts ds (text_of line t) (forms qs) attributes)) uses.attributes
-        ∙ ap (λ (x : List ℕ). Some (item_with ts ds x (forms qs) (attributes_are k loc))) text_is)))
+        (item_with ts ds (text_of line t) operands.0 (said t more) attributes)) uses.operands
+        ∙ (ap (λ (o : Option Attributes). o >>= λ (attributes : Attributes). Some (item_with ts ds (text_of line t) (forms qs) (said t more) attributes))
+        uses.attributes
+        ∙ (ap (λ (x : List ℕ). Some (item_with ts ds x (forms qs) (said t more) (attributes_are k loc))) text_is
+        ∙ ap (λ (b : Bool). Some (item_with ts ds text (forms qs) b (attributes_are k loc))) (unsaid t more)))))
 
     abbrev item_pieces : List ℕ → List Piece
     item_pieces [] = coded 4
@@ -206,8 +222,8 @@ module _ (qs : List Phrase) (k : Option ℕ) (loc : Loc) (small : Small k) (at :
 
     -- what is read of a whole line's lexemes
     pub record ItemParsed (line : List ℕ) (rs : List ℕ) (ls : List Lexeme) : Type 0 where
-      pub item : item_of line ls ≡ Some (item_with ls (sets rs) text (forms qs) (attributes_are k loc))
-      pub sentence : sentence_of line ls ≡ as_item (item_of line ls)
+      pub item : item_of false line ls ≡ Some (item_with ls (sets rs) text (forms qs) false (attributes_are k loc))
+      pub sentence : sentence_of false line ls ≡ as_item (item_of false line ls)
 
     abbrev Definitions : Type 0
     Definitions = List RegisterForm × List Lexeme
@@ -216,7 +232,7 @@ module _ (qs : List Phrase) (k : Option ℕ) (loc : Loc) (small : Small k) (at :
     unfolding item_of
     item_parses line [] ls are (t, more, text_is, e, lexed) =
         subst (ItemParsed line []) (sym e) (record {
-          item = ap (λ (o : Option Definitions). o >>= λ (d : Definitions). defined_item line (lexemes.Word (word_of text) t ∷ more) d.0 d.1)
+          item = ap (λ (o : Option Definitions). o >>= λ (d : Definitions). defined_item false line (lexemes.Word (word_of text) t ∷ more) d.0 d.1)
               (cond-false (begins_register (lexemes.Word (word_of text) t ∷ more)) (definitions_at (length (lexemes.Word (word_of text) t ∷ more)) (lexemes.Word
               (word_of text) t ∷ more)) (Some ([], lexemes.Word (word_of text) t ∷ more)) (upper.register t more))
               ∙ defined_is line (lexemes.Word (word_of text) t ∷ more) [] t more (uses_parse line qs more lexed) text_is;
@@ -227,9 +243,9 @@ module _ (qs : List Phrase) (k : Option ℕ) (loc : Loc) (small : Small k) (at :
         let size = lexed_length line (set_pieces 4 r rs ++ coded 1) ls lexed in
         let set = parses_set line 4 r rs (coded 1) ls (length ls) are (omega (arith, few, size)) lexed in
         record {
-          item = ap (λ (o : Option Definitions). o >>= λ (d : Definitions). defined_item line ls d.0 d.1)
+          item = ap (λ (o : Option Definitions). o >>= λ (d : Definitions). defined_item false line ls d.0 d.1)
               (cond-true (begins_register ls) (definitions_at (length ls) ls) (Some ([], ls)) set.begins ∙ set.is)
-              ∙ (ap (λ (x : List Lexeme). defined_item line ls (sets (r ∷ rs)) x) set.lexed.3
+              ∙ (ap (λ (x : List Lexeme). defined_item false line ls (sets (r ∷ rs)) x) set.lexed.3
               ∙ defined_is line ls (sets (r ∷ rs)) set.lexed.0 set.lexed.1 (uses_parse line qs set.lexed.1 set.lexed.4) set.lexed.2);
           sentence = register_sentence line ls (set_first line r rs (coded 1) ls are.0 lexed);
         }
@@ -304,7 +320,7 @@ module _ (qs : List Phrase) (k : Option ℕ) (loc : Loc) (small : Small k) (at :
     -- ---- what the line says
 
     abbrev form_is : List ℕ → ItemForm
-    form_is rs = record { definitions = sets rs; opcode = text; operands = forms qs; number = k; loc = loc; exceeds = false }
+    form_is rs = record { definitions = sets rs; opcode = text; operands = forms qs; no_return = false; number = k; loc = loc; exceeds = false }
 
     semicolons : IsUncut (59 ∷ [])
     semicolons = record { is = semicolon_mark; colon = λ rest. one rest } where
@@ -314,7 +330,7 @@ module _ (qs : List Phrase) (k : Option ℕ) (loc : Loc) (small : Small k) (at :
     colons : IsUncut (58 ∷ 58 ∷ [])
     colons = record { is = colons_mark; colon = colon_passes }
 
-    pub line_says : (rs : List ℕ) → AreRegisters rs → body_line_of (codes "    " ++ whole_text rs) ≡ Ok (lines.Item (form_is rs))
+    pub line_says : (rs : List ℕ) → AreRegisters rs → body_line_of false (codes "    " ++ whole_text rs) ≡ Ok (lines.Item (form_is rs))
     unfolding body_line_of
     line_says rs are =
         let ps = item_pieces rs in
@@ -329,11 +345,19 @@ module _ (qs : List Phrase) (k : Option ℕ) (loc : Loc) (small : Small k) (at :
         (λ i. narrow_lexed line ps (lexemes_of line lexed.tokens) (item_narrow rs are) lexed.lexed i || (sets_within rs are i ||
         (uses_within qs i || tail_within k loc small at
         i))) in
-        ap body_line_of (sym (item_spells rs))
-        ∙ (cond-false (is_listing line) (Ok lines.Passed) (line_of_tokens (code_of line) (tokens_of (code_of line))) (first_text rs are)
-        ∙ (ap (λ (t : List ℕ). line_of_tokens t (tokens_of t)) code
-        ∙ (ap (line_of_tokens line) lexed.are
+        ap (body_line_of false) (sym (item_spells rs))
+        ∙ (cond-false (is_listing line) (Ok lines.Passed) (line_of_tokens false (code_of line) (tokens_of (code_of line))) (first_text rs are)
+        ∙ (ap (λ (t : List ℕ). line_of_tokens false t (tokens_of t)) code
+        ∙ (ap (line_of_tokens false line) lexed.are
         ∙ (parsed.sentence
         ∙ (ap as_item parsed.item
-        ∙ ap (λ (b : Bool). Ok (lines.Item (record { definitions = sets rs; opcode = text; operands = forms qs; number = k; loc = loc; exceeds = b })))
+        ∙ ap (λ (b : Bool). Ok (lines.Item (record {
+          definitions = sets rs;
+          opcode = text;
+          operands = forms qs;
+          no_return = false;
+          number = k;
+          loc = loc;
+          exceeds = b;
+        })))
         within)))))

@@ -39,23 +39,23 @@ use Rattle.readback_items.proofs.Said.{lines_say_forms}
 
 -- ---- opcodes
 
-value_opcode : opcode_of (codes "DBG_VALUE") ≡ Some (opcodes.Debug debug.Value)
+value_opcode : opcode_of false (codes "DBG_VALUE") ≡ Some (opcodes.Debug debug.Value)
 unfolding opcode_of op_named ops debug_opcode_of
 value_opcode = refl
 
-reference_opcode : opcode_of (codes "DBG_INSTR_REF") ≡ Some (opcodes.Debug debug.InstrRef)
+reference_opcode : opcode_of false (codes "DBG_INSTR_REF") ≡ Some (opcodes.Debug debug.InstrRef)
 unfolding opcode_of op_named ops debug_opcode_of
 reference_opcode = refl
 
-phi_opcode : opcode_of (codes "DBG_PHI") ≡ Some (opcodes.Debug debug.Phi)
+phi_opcode : opcode_of false (codes "DBG_PHI") ≡ Some (opcodes.Debug debug.Phi)
 unfolding opcode_of op_named ops debug_opcode_of
 phi_opcode = refl
 
 -- a debug line, by its opcode
-by_opcode : (meta : Maps) (op : DebugOpcode) (line : ItemForm) → opcode_of line.opcode ≡ Some (opcodes.Debug op) →
-    judged meta line ≡ item_of line (debug_of op meta line)
+by_opcode : (meta : Maps) (op : DebugOpcode) (line : ItemForm) → opcode_of false line.opcode ≡ Some (opcodes.Debug op) →
+    judged false meta line ≡ item_of line (debug_of op meta line)
 unfolding judged
-by_opcode meta op line is = ap (λ (o : Option Opcode). judged_by o meta line) is
+by_opcode meta op line is = ap (λ (o : Option Opcode). judged_by false o meta line) is
 
 -- ---- marks
 
@@ -83,7 +83,12 @@ reference_read meta q node at None loc = refl
 reference_read meta q node at (Some b) loc = refl
 
 value_means : (meta : Maps) (value : OperandForm) (v : VarId) (m : MarkValue) (loc : Loc) → v.inlined_at ≡ inlined_at meta loc → operand_value value ≡ m →
-    judged meta (value_form value v loc) ≡ Ok (judged_as.Item (record { kind = Mark v m; loc = loc; entries = entries_of (value_form value v loc).operands }))
+    judged false meta (value_form value v loc) ≡ Ok (judged_as.Item (record {
+      kind = Mark v m;
+      loc = loc;
+      entries =
+          entries_of (value_form value v loc).operands;
+    }))
 value_means meta value v m loc inlined is =
     by_opcode meta debug.Value (value_form value v loc) value_opcode
     ∙ (ap (item_of (value_form value v loc)) (value_read meta value v.node v.inlined_at v.fragment loc)
@@ -94,7 +99,7 @@ value_means meta value v m loc inlined is =
     }))))
 
 mark_means : (meta : Maps) (v : VarId) (m : MarkValue) (loc : Loc) → v.inlined_at ≡ inlined_at meta loc → ValueIsLimited m → ValueIsKept m →
-    judged meta (mark_form v m loc) ≡ Ok (judged_as.Item (record { kind = Mark v m; loc = loc; entries = entries_of (mark_form v m loc).operands }))
+    judged false meta (mark_form v m loc) ≡ Ok (judged_as.Item (record { kind = Mark v m; loc = loc; entries = entries_of (mark_form v m loc).operands }))
 mark_means meta v Nothing loc inlined small is = value_means meta no_register v Nothing loc inlined refl
 mark_means meta v (Constant c) loc inlined small is = value_means meta (form.Integer (Some c)) v (Constant c) loc inlined refl
 mark_means meta v (At r) loc inlined small is =
@@ -137,7 +142,12 @@ phi_item meta p k loc o is f same =
     ap (λ (x : Option PhiForm). kind_unless (refusal_by (debug_rules (phi_kind x) (kind_form (Phi p k) loc))) (phi_kind x)) (is ∙ same)
 
 phi_means : (meta : Maps) (p : Option Place) (k : ℕ) (loc : Loc) → PlaceIsLimited p → PlaceIsKept p → k ≤ MAX_NUMBER →
-    judged meta (kind_form (Phi p k) loc) ≡ Ok (judged_as.Item (record { kind = Phi p k; loc = loc; entries = entries_of (kind_form (Phi p k) loc).operands }))
+    judged false meta (kind_form (Phi p k) loc) ≡ Ok (judged_as.Item (record {
+      kind = Phi p k;
+      loc = loc;
+      entries =
+          entries_of (kind_form (Phi p k) loc).operands;
+    }))
 phi_means meta p k loc small is few =
     by_opcode meta debug.Phi (kind_form (Phi p k) loc) phi_opcode
     ∙ ap (item_of (kind_form (Phi p k) loc))
@@ -146,7 +156,7 @@ phi_means meta p k loc small is few =
 -- ---- all
 
 debug_means : (meta : Maps) (kind : ItemKind) (loc : Loc) → KindIsLimited kind → IsDebug meta loc kind →
-    judged meta (kind_form kind loc) ≡ Ok (judged_as.Item (record { kind = kind; loc = loc; entries = entries_of (kind_form kind loc).operands }))
+    judged false meta (kind_form kind loc) ≡ Ok (judged_as.Item (record { kind = kind; loc = loc; entries = entries_of (kind_form kind loc).operands }))
 debug_means meta (Code i k) loc small is = absurd is
 debug_means meta (Mark v m) loc small is = mark_means meta v m loc is.0 small.1 is.1
 debug_means meta (Phi p k) loc small is = phi_means meta p k loc small.0 is small.1

@@ -1,5 +1,5 @@
 -- What an item keeps that was judged, and that is then read where stack entries are objects.
-use Rattle.std.proofs.Common.{◌≡◌, ℕ, ◌+◌, ◌≤◌, Bool, true, false, cond, eqb, ltb, List, [], ◌∷◌, length, map, Option, Some, None, refl, sym, subst, arith}
+use Rattle.std.proofs.Common.{◌≡◌, ℕ, ◌+◌, ◌≤◌, Bool, true, false, cond, eqb, ltb, List, [], ◌∷◌, length, Option, Some, None, refl, sym, subst, arith}
 use Rattle.std.specs.Prelude.{pos, IfSome}
 use Rattle.std.proofs.lemmas.Bool.{eqb-false}
 use Rattle.std.proofs.lemmas.List.{length-map}
@@ -30,11 +30,11 @@ use Rattle.read_item.specs.Debug.{content_value, register_value, operand_value, 
 use Rattle.read_item.specs.Debug.{reference_mark, list_mark, content_place, register_place, phi_place, phi_by, if_counted, count_in, phi_of, inlined_at}
 use Rattle.read_item.specs.Debug.{virtual_value, virtual_place, mark_kind, phi_kind, debug_kind}
 use Rattle.read_program.specs.Objects.{operand_as, instr_as, is_object, place_as, kind_as}
-use Rattle.read_program.proofs.Judged.{IsItemLine, of_code, of_debug}
+use Rattle.read_program.proofs.Judged.{IsItemLine, of_code, of_debug, of_upper, of_lower}
 use Rattle.read_program.proofs.Printed.{form_kept, renamed}
 use Rattle.readback_items.specs.Debug.{IsKept, ValueIsKept, PlaceIsKept}
 use Rattle.readback_items.specs.Code.{IsReadable}
-use Rattle.readback_items.proofs.Few.{few_operands}
+use Rattle.readback_items.proofs.Few.{few_operands, halves_fit}
 
 pub record IsShort (i : Instruction) : Type 0 where
   pub form : has_form i.op i.operands ≡ true
@@ -163,9 +163,14 @@ debug_kept debug.InstrRef meta line kind e = mark_kept meta line.loc (reference_
 debug_kept debug.ValueList meta line kind e = mark_kept meta line.loc (list_mark line.operands) kind e (list_kept line.operands)
 debug_kept debug.Phi meta line kind e = phi_item_kept meta line.loc (phi_of line.operands) kind e (phi_kept line.operands)
 
-pub line_kept : (meta : Maps) (line : ItemForm) (kind : ItemKind) → IsItemLine meta line kind → Kept meta line.loc kind
-line_kept meta line _ (of_code {op} {instr} may code) = record { form = code.form; few = few_operands op line instr code }
-line_kept meta line kind (of_debug {op} said) = debug_kept op meta line kind said.kind_is
+pub line_kept : (linked : Bool) (meta : Maps) (line : ItemForm) (entries : List ℕ) (kind : ItemKind) → IsItemLine linked meta line entries kind →
+    Kept meta line.loc kind
+line_kept linked meta line entries _ (of_code {op} {instr} named may code) = record { form = code.form; few = few_operands op line instr code }
+line_kept linked meta line entries kind (of_debug {op} named said) = debug_kept op meta line kind said.kind_is
+line_kept linked meta line entries _ (of_upper {p} is said) =
+    let fit = halves_fit line p said in record { form = fit.upper_form; few = fit.upper_few }
+line_kept linked meta line entries _ (of_lower {p} is said) =
+    let fit = halves_fit line p said in record { form = fit.lower_form; few = fit.lower_few }
 
 -- ---- where stack entries are objects
 

@@ -55,14 +55,14 @@ module _ (n : ℕ) (small : n ≤ MAX_NUMBER) where
   unfolding is_listing
   no_listing = refl
 
-  sentence_is : (line : List ℕ) (ls : List Lexeme) → Lexed line pieces ls → sentence_of line ls ≡ Ok (Label (Some n))
+  sentence_is : (line : List ℕ) (ls : List Lexeme) → Lexed line pieces ls → sentence_of false line ls ≡ Ok (Label (Some n))
   unfolding sentence_of
   sentence_is line ls (t, rest, text, e, (u, last, colon, e2, none)) =
-      ap (sentence_of line) (e ∙ (ap (λ (w : Word). lexemes.Word w t ∷ rest) block_word ∙ ap (λ (xs : List Lexeme). lexemes.Word (words.Block n) t ∷ xs)
+      ap (sentence_of false line) (e ∙ (ap (λ (w : Word). lexemes.Word w t ∷ rest) block_word ∙ ap (λ (xs : List Lexeme). lexemes.Word (words.Block n) t ∷ xs)
       (e2 ∙ ap (λ (xs : List Lexeme). lexemes.Colon ∷ xs) none)))
       ∙ ap (λ (b : Bool). Ok (cond b (Label (Some n)) (Label None))) (lt-ltb n BEYOND (omega (arith, small)))
 
-  label : body_line_of (codes "  bb." ++ decimal n ++ codes ":") ≡ Ok (Label (Some n))
+  label : body_line_of false (codes "  bb." ++ decimal n ++ codes ":") ≡ Ok (Label (Some n))
   unfolding body_line_of
   label =
       let line = spelled pieces in
@@ -70,9 +70,9 @@ module _ (n : ℕ) (small : n ≤ MAX_NUMBER) where
       let comments : before (59 ∷ []) None line ≡ line = pieces_pass (59 ∷ []) semicolon_mark pieces (ends (59 ∷ []) semicolon_mark no_comment) in
       let operands : before (58 ∷ 58 ∷ []) None line ≡ line = pieces_pass (58 ∷ 58 ∷ []) colons_mark pieces (ends (58 ∷ 58 ∷ []) colons_mark no_operands) in
       let code : code_of line ≡ line = ap (before (58 ∷ 58 ∷ []) None) comments ∙ operands in
-      cond-false (is_listing line) (Ok Passed) (line_of_tokens (code_of line) (tokens_of (code_of line))) no_listing
-      ∙ (ap (λ (t : List ℕ). line_of_tokens t (tokens_of t)) code
-      ∙ (ap (line_of_tokens line) lexed.are ∙ sentence_is line (lexemes_of line lexed.tokens) lexed.lexed))
+      cond-false (is_listing line) (Ok Passed) (line_of_tokens false (code_of line) (tokens_of (code_of line))) no_listing
+      ∙ (ap (λ (t : List ℕ). line_of_tokens false t (tokens_of t)) code
+      ∙ (ap (line_of_tokens false line) lexed.are ∙ sentence_is line (lexemes_of line lexed.tokens) lexed.lexed))
 
 pub labels_read_back : LabelsReadBack
 labels_read_back n small = label n small

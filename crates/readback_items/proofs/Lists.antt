@@ -92,7 +92,7 @@ pub record IsEnd (ls : List Lexeme) : Type 0 where
 
 pub record ListParsed (line : List ℕ) (ps : List Piece) (fuel : ℕ) (ls : List Lexeme) (fs : List OperandForm) : Type 0 where
   pub rest : List Lexeme
-  pub is : operands_at line fuel ls ≡ Some (fs, rest)
+  pub is : operands_at false line fuel ls ≡ Some (fs, rest)
   pub lexed : Lexed line ps rest
   pub operand : begins_operand ls ≡ true
   pub attribute : begins_attribute ls ≡ false
@@ -106,19 +106,20 @@ Rest = OperandForm × List Lexeme
 abbrev Several : Type 0
 Several = Option (List OperandForm × List Lexeme)
 
-last_operand : (line : List ℕ) (k : ℕ) (ls rest : List Lexeme) (f : OperandForm) → operand_at line ls ≡ Some (f, rest) → behind_operand rest ≡ None →
-    operands_at line (suc k) ls ≡ Some (f ∷ [], rest)
+last_operand : (line : List ℕ) (k : ℕ) (ls rest : List Lexeme) (f : OperandForm) → operand_at false line ls ≡ Some (f, rest) → behind_operand rest ≡ None →
+    operands_at false line (suc k) ls ≡ Some (f ∷ [], rest)
 unfolding operands_at
 last_operand line k ls rest f is none =
-    ap (λ (o : Option Rest). o >>= λ (x : Rest). case_of (behind_operand x.1) (λ more. before x.0 (operands_at line k more)) (Some (x.0 ∷ [], x.1))) is
-    ∙ ap (λ (o : Option (List Lexeme)). case_of o (λ more. before f (operands_at line k more)) (Some (f ∷ [], rest))) none
+    ap (λ (o : Option Rest). o >>= λ (x : Rest). case_of (behind_operand x.1) (λ more. before x.0 (operands_at false line k more)) (Some (x.0 ∷ [], x.1))) is
+    ∙ ap (λ (o : Option (List Lexeme)). case_of o (λ more. before f (operands_at false line k more)) (Some (f ∷ [], rest))) none
 
-more_operands : (line : List ℕ) (k : ℕ) (ls rest more last : List Lexeme) (f : OperandForm) (fs : List OperandForm) → operand_at line ls ≡ Some (f, rest) →
-    behind_operand rest ≡ Some more → operands_at line k more ≡ Some (fs, last) → operands_at line (suc k) ls ≡ Some (f ∷ fs, last)
+more_operands : (line : List ℕ) (k : ℕ) (ls rest more last : List Lexeme) (f : OperandForm) (fs : List OperandForm) →
+    operand_at false line ls ≡ Some (f, rest) →
+    behind_operand rest ≡ Some more → operands_at false line k more ≡ Some (fs, last) → operands_at false line (suc k) ls ≡ Some (f ∷ fs, last)
 unfolding operands_at
 more_operands line k ls rest more last f fs is next others =
-    ap (λ (o : Option Rest). o >>= λ (x : Rest). case_of (behind_operand x.1) (λ y. before x.0 (operands_at line k y)) (Some (x.0 ∷ [], x.1))) is
-    ∙ (ap (λ (o : Option (List Lexeme)). case_of o (λ y. before f (operands_at line k y)) (Some (f ∷ [], rest))) next
+    ap (λ (o : Option Rest). o >>= λ (x : Rest). case_of (behind_operand x.1) (λ y. before x.0 (operands_at false line k y)) (Some (x.0 ∷ [], x.1))) is
+    ∙ (ap (λ (o : Option (List Lexeme)). case_of o (λ y. before f (operands_at false line k y)) (Some (f ∷ [], rest))) next
     ∙ ap (λ (o : Several). before f o) others)
 
 pub parses_all : (line : List ℕ) (n : ℕ) (q : Phrase) (qs : List Phrase) (ps : List Piece) (ls : List Lexeme) (fuel : ℕ) →

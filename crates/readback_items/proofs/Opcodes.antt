@@ -1,5 +1,6 @@
 -- The opcodes of printed lines: words that begin with an upper-case letter.
-use Rattle.std.proofs.Common.{◌≡◌, ℕ, Bool, true, false, ◌&&◌, List, [], ◌∷◌, refl, arith}
+use Rattle.std.proofs.Common.{◌≡◌, ℕ, Bool, true, false, cond, not, ◌&&◌, List, [], ◌∷◌, refl, ap, arith}
+use Rattle.std.specs.Prelude.{filter}
 use Rattle.std.specs.List.{list_all}
 use Rattle.std.specs.Char.{is_ascii_uppercase}
 use Rattle.std.proofs.lemmas.Bool.{and_parts}
@@ -12,7 +13,10 @@ use Rattle.rv64_instr.specs.declared.op.ImmediateOp.TheVariants.{Addi, Slti, Slt
 use Rattle.rv64_instr.specs.declared.op.BranchOp.TheVariants.{Beq, Bne, Blt, Bge, Bltu, Bgeu}
 use Rattle.rv64_instr.specs.declared.op.LoadOp.TheVariants.{Lb, Lh, Lw, Ld, Lbu, Lhu, Lwu}
 use Rattle.rv64_instr.specs.declared.op.StoreOp.TheVariants.{Sb, Sh, Sw, Sd}
+use Rattle.rv64_instr.specs.declared.operand.Operand.{Operand}
+use Rattle.rv64_instr.specs.Form.{has_register_callee}
 use Rattle.rv64_instr.specs.Mnemonic.{mnemonic_of}
+use Rattle.mir_printer.specs.Spelling.{is_definition, held_uses, uses_behind}
 use Rattle.read_item.specs.Opcode.{is_read}
 use Rattle.read_lexer.specs.declared.parts.Class.TheVariants as class
 use Rattle.read_lexer.specs.Bytes.{is_blank, is_word_start, is_word_byte}
@@ -54,7 +58,7 @@ opcode (b ∷ bs) is =
       reads = λ rest ends. word_read b bs rest (starts b first.0).0 (starts b first.0).1 second.0 ends;
     }
 
-pub mnemonics : (op : Op) → is_read op ≡ true → is_opcode (mnemonic_of op) ≡ true
+pub mnemonics : (op : Op) → is_read false op ≡ true → is_opcode (mnemonic_of op) ≡ true
 unfolding word_of flag_of is_plain keyword_of
 mnemonics (Registers Add) read = refl
 mnemonics (Registers Sub) read = refl
@@ -107,3 +111,14 @@ mnemonics PseudoTailIndirect read = cc
 mnemonics NoReturnCall read = cc
 mnemonics NoReturnCallIndirect read = cc
 mnemonics _ read = refl
+
+-- calls by a register are of the linked language
+pub no_callee : (op : Op) → is_read false op ≡ true → has_register_callee op ≡ false
+no_callee PseudoCallIndirect read = cc
+no_callee PseudoTailIndirect read = cc
+no_callee NoReturnCallIndirect read = cc
+no_callee op read = refl
+
+-- so the operands behind another opcode print as they are
+pub named_uses : (op : Op) (os : List Operand) → is_read false op ≡ true → uses_behind op os ≡ filter (λ o. not (is_definition o)) os
+named_uses op os read = ap (λ (b : Bool). cond b (held_uses os) (filter (λ o. not (is_definition o)) os)) (no_callee op read)

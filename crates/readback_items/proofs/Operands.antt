@@ -1,7 +1,7 @@
 -- The operands of a printed line, each in its place.
 use Rattle.std.proofs.Common.{◌≡◌, Bool, true, false, cond, not, List, ◌++◌, Some, map, refl, sym, ap, subst, ◌∙◌}
 use Rattle.std.specs.Prelude.{filter}
-use Rattle.std.specs.List.{flat_map, list_any, zip}
+use Rattle.std.specs.List.{list_any, zip}
 use Rattle.std.proofs.lemmas.List.{map-append, append-nil}
 use Rattle.std.proofs.lemmas.List.Concat.{flat_map-append}
 use Rattle.std.proofs.lemmas.List.Elements.{filter-append}

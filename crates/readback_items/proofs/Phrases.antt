@@ -4,7 +4,7 @@ use Rattle.std.proofs.Common.{refl, sym, subst, ap, ◌∙◌, arith, All, appen
 use Rattle.std.specs.Prelude.{codes, drop}
 use Rattle.std.specs.List.{list_all}
 use Rattle.std.specs.Fmt.{decimal, signed_decimal}
-use Rattle.std.proofs.lemmas.Bool.{lt-leb}
+use Rattle.std.proofs.lemmas.Bool.{lt-leb, false≢true}
 use Rattle.rv64_instr.specs.declared.operand.Operand.{Operand}
 use Rattle.rv64_instr.specs.declared.operand.Operand.TheVariants.{Def, Use, ImplicitDef, ImplicitUse, Imm, Slot, Object, Part, Outgoing, Block, Symbol, Mask}
 use Rattle.rv64_instr.specs.Form.{IsSigned}
@@ -36,7 +36,7 @@ use Rattle.read_line.specs.Item.{begins_operand}
 use Rattle.read_line.specs.Operand.{fitting, mask_at, word_operand_at, operand_at}
 use Rattle.read_line.specs.Read.{◌>>=◌}
 use Rattle.read_line.specs.Register.{behind_class, behind_tied, named_at, register_at}
-use Rattle.read_program.specs.Limited.{IsLimited}
+use Rattle.read_program.proofs.Operands.{IsLimitedIn}
 use Rattle.mir_printer.specs.Spelling.{register_text, symbol_text, operand_text}
 use Rattle.readback_items.specs.Forms.{register_name, register_form, no_register, operand_form}
 use Rattle.readback_items.specs.Laws.{NameIsBytes}
@@ -67,7 +67,7 @@ pub record IsPlain (ls : List Lexeme) : Type 0 where
 -- an operand is read of lexemes, and these pieces are left
 pub record Parsed (line : List ℕ) (ps : List Piece) (ls : List Lexeme) (f : OperandForm) : Type 0 where
   pub rest : List Lexeme
-  pub is : operand_at line ls ≡ Some (f, rest)
+  pub is : operand_at false line ls ≡ Some (f, rest)
   pub lexed : Lexed line ps rest
   pub operand : begins_operand ls ≡ true
   pub attribute : begins_attribute ls ≡ false
@@ -122,13 +122,13 @@ as_operand o = o >>= λ r. Some (form.Register r.0, r.1)
 
 -- a register, and a register behind the word of its flag
 plain_register : (line : List ℕ) (name : RegisterName) (ls : List Lexeme) (f : RegisterForm) → named_at flags.Plain name ls ≡ Some (f, ls) →
-    operand_at line (lexemes.Register name ∷ ls) ≡ Some (form.Register f, ls)
+    operand_at false line (lexemes.Register name ∷ ls) ≡ Some (form.Register f, ls)
 unfolding operand_at register_at as_operand
 plain_register line name ls f is = ap as_operand is
 
 flagged_register : (line : List ℕ) (flag : Flag) (t : Token) (name : RegisterName) (ls : List Lexeme) (f : RegisterForm) → named_at flag name ls ≡ Some
     (f, ls) →
-    operand_at line (lexemes.Word (words.Flag flag) t ∷ lexemes.Register name ∷ ls) ≡ Some (form.Register f, ls)
+    operand_at false line (lexemes.Word (words.Flag flag) t ∷ lexemes.Register name ∷ ls) ≡ Some (form.Register f, ls)
 unfolding operand_at register_at as_operand
 flagged_register line flag t name ls f is = ap as_operand is
 
@@ -262,7 +262,7 @@ implicit_def_phrase r small = flagged_phrase (codes "implicit-def") 105 (codes "
 -- an operand of one token
 module _ (text : List ℕ) (c : Class) (f : OperandForm) (lexes : (rest : List ℕ) → Ends rest → Reads c text rest)
     (means : (line : List ℕ) (t : Token) (rest : List Lexeme) → text_of line t ≡ text → IsPlain rest →
-    (operand_at line (lexeme_by c t text ∷ rest) ≡ Some (f, rest)) × (begins_operand (lexeme_by c t text ∷ rest) ≡ true)
+    (operand_at false line (lexeme_by c t text ∷ rest) ≡ Some (f, rest)) × (begins_operand (lexeme_by c t text ∷ rest) ≡ true)
     × (begins_attribute (lexeme_by c t text ∷ rest) ≡ false)) (narrow : (t : Token) → is_wide (lexeme_by c t text) ≡ false)
     (passes : (mark : List ℕ) → IsMark mark → (rest : List ℕ) → Passes mark text rest) (within : operand_exceeds f ≡ false) where
   one_parsed : (line : List ℕ) (ps : List Piece) (ls : List Lexeme) → ((rest : List Lexeme) → Lexed line ps rest → IsPlain rest) →
@@ -323,7 +323,7 @@ unfolding operand_at
 stack_phrase n small = one_phrase (codes "%stack." ++ decimal n) class.Percent (form.Slot n)
     (λ rest ends. percent_read 115 (codes "tack." ++ decimal n) rest (decimal_word n (omega (arith, small))) ends)
     (λ line t rest text plain. (
-      ap (λ (l : Lexeme). operand_at line (l ∷ rest)) (stack_lexeme n small),
+      ap (λ (l : Lexeme). operand_at false line (l ∷ rest)) (stack_lexeme n small),
       ap (λ (l : Lexeme). begins_operand (l ∷ rest)) (stack_lexeme n small),
       ap (λ (l : Lexeme). begins_attribute (l ∷ rest)) (stack_lexeme n small),
     ))
@@ -335,7 +335,7 @@ unfolding operand_at
 block_phrase n small = one_phrase (codes "%bb." ++ decimal n) class.Percent (form.Block n)
     (λ rest ends. percent_read 98 (codes "b." ++ decimal n) rest (decimal_word n (omega (arith, small))) ends)
     (λ line t rest text plain. (
-      ap (λ (l : Lexeme). operand_at line (l ∷ rest)) (block_lexeme n small),
+      ap (λ (l : Lexeme). operand_at false line (l ∷ rest)) (block_lexeme n small),
       ap (λ (l : Lexeme). begins_operand (l ∷ rest)) (block_lexeme n small),
       ap (λ (l : Lexeme). begins_attribute (l ∷ rest)) (block_lexeme n small),
     ))
@@ -368,7 +368,7 @@ pub mask_phrase : Phrase
 unfolding operand_at word_operand_at
 mask_phrase = one_phrase (codes "mask") class.Word form.Mask (λ rest ends. word_read 109 (codes "ask") rest refl refl refl ends)
     (λ line t rest text plain. (
-      ap (λ (w : Word). operand_at line (lexemes.Word w t ∷ rest)) mask_is ∙ plain.mask,
+      ap (λ (w : Word). operand_at false line (lexemes.Word w t ∷ rest)) mask_is ∙ plain.mask,
       ap (λ (w : Word). begins_operand (lexemes.Word w t ∷ rest)) mask_is,
       ap (λ (w : Word). begins_attribute (lexemes.Word w t ∷ rest)) mask_is,
     ))
@@ -402,7 +402,7 @@ pub node_said : (n : ℕ) → n ≤ MAX_NUMBER → PhraseOf (33 ∷ decimal n) (
 unfolding node_phrase one_phrase
 node_said n small = record { phrase = node_phrase n small; text_is = refl; form_is = refl }
 
-pub operand_said : (o : Operand) → IsLimited o → NameIsBytes o → PhraseOf (operand_text o) (operand_form o)
+pub operand_said : (o : Operand) → IsLimitedIn false o → NameIsBytes o → PhraseOf (operand_text o) (operand_form o)
 unfolding implicit_phrase implicit_def_phrase flagged_phrase block_phrase symbol_phrase mask_phrase one_phrase
 operand_said (Def r) small bytes = register_said r small
 operand_said (Use r) small bytes = register_said r small
@@ -411,7 +411,7 @@ operand_said (ImplicitUse r) small bytes = record { phrase = implicit_phrase r (
 operand_said (Imm i) small bytes = integer_said i small
 operand_said (Slot n) small bytes = stack_said n small
 operand_said (Object n) small bytes = stack_said n small
-operand_said (Part half y) small bytes = absurd small
+operand_said (Part half y) small bytes = absurd (false≢true small.0)
 operand_said (Outgoing n) small bytes = absurd small
 operand_said (Block n) small bytes = record { phrase = block_phrase n small; text_is = refl; form_is = refl }
 operand_said (Symbol name) small bytes = record { phrase = symbol_phrase name bytes; text_is = refl; form_is = refl }

@@ -17,8 +17,9 @@ use Rattle.read_token.specs.declared.lexeme.Flag.TheVariants as flags
 use Rattle.read_token.specs.declared.lexeme.Lexeme.TheVariants as lexemes
 use Rattle.read_token.specs.declared.lexeme.RegisterName.{RegisterName}
 use Rattle.read_token.specs.declared.lexeme.RegisterName.TheVariants.{Physical, Absent, Other, Virtual}
-use Rattle.read_token.specs.Number.{BEYOND, limited}
-use Rattle.read_token.specs.Register.{register_of, is_number, virtual_of, slot_of, block_operand_of, behind_stack, behind_bb, percent_behind}
+use Rattle.read_token.specs.Number.{BEYOND, limited, is_number}
+use Rattle.read_token.specs.Register.{register_of, virtual_of, slot_of, block_operand_of, fixed_of, constant_of, numbered_of, behind_stack, behind_bb}
+use Rattle.read_token.specs.Register.{behind_fixed, behind_const, percent_behind}
 use Rattle.read_token.specs.Sentence.{lexeme_by}
 use Rattle.read_token.specs.Word.{case_of}
 use Rattle.read_line.specs.Exceeds.{name_exceeds}
@@ -84,7 +85,7 @@ physical_is r small =
 pub register_spelled : (r : ℕ) → r < 32 → register_text r ≡ 36 ∷ 120 ∷ decimal r
 register_spelled r small = ap (λ (b : Bool). cond b (codes "$x" ++ decimal r) (codes "%" ++ decimal (r - 32))) (lt-ltb r 32 small)
 
--- ---- virtual registers: digits begin neither `stack.` nor `bb.`
+-- ---- virtual registers: digits begin none of `stack.`, `bb.`, `fixed-stack.` and `const.`
 
 no_stack : (b : ℕ) (bs : List ℕ) → eqb b 115 ≡ false → behind_stack (b ∷ bs) ≡ None
 no_stack b [] e = refl
@@ -99,6 +100,24 @@ no_block : (b : ℕ) (bs : List ℕ) → eqb b 98 ≡ false → behind_bb (b ∷
 no_block b [] e = refl
 no_block b (c ∷ []) e = refl
 no_block b (c ∷ d ∷ bs) e = ap (λ (t : Bool). cond (t && eqb c 98 && eqb d 46) (Some bs) None) e
+
+no_fixed : (b : ℕ) (bs : List ℕ) → eqb b 102 ≡ false → behind_fixed (b ∷ bs) ≡ None
+no_fixed b [] e = refl
+no_fixed b (c ∷ []) e = refl
+no_fixed b (c ∷ d ∷ []) e = refl
+no_fixed b (c ∷ d ∷ f ∷ []) e = refl
+no_fixed b (c ∷ d ∷ f ∷ g ∷ []) e = refl
+no_fixed b (c ∷ d ∷ f ∷ g ∷ h ∷ bs) e =
+    ap (λ (t : Bool). cond (t && eqb c 105 && eqb d 120 && eqb f 101 && eqb g 100 && eqb h 45) (behind_stack bs) None) e
+
+no_const : (b : ℕ) (bs : List ℕ) → eqb b 99 ≡ false → behind_const (b ∷ bs) ≡ None
+no_const b [] e = refl
+no_const b (c ∷ []) e = refl
+no_const b (c ∷ d ∷ []) e = refl
+no_const b (c ∷ d ∷ f ∷ []) e = refl
+no_const b (c ∷ d ∷ f ∷ g ∷ []) e = refl
+no_const b (c ∷ d ∷ f ∷ g ∷ h ∷ bs) e =
+    ap (λ (t : Bool). cond (t && eqb c 111 && eqb d 110 && eqb f 115 && eqb g 116 && eqb h 46) (Some bs) None) e
 
 decimal_is_number : (n : ℕ) → n < 2 ^ 64 → is_number (decimal n) ≡ true
 decimal_is_number n small =
@@ -116,10 +135,14 @@ virtual_is n small =
     let is = decimal_of n (omega (arith, small)) in
     let stack : behind_stack (decimal n) ≡ None = ap behind_stack is.parts ∙ no_stack is.first is.rest (no_digit is.first 115 is.digit refl) in
     let block : behind_bb (decimal n) ≡ None = ap behind_bb is.parts ∙ no_block is.first is.rest (no_digit is.first 98 is.digit refl) in
-    ap (λ (o : Option (List ℕ)). case_of o slot_of (case_of (behind_bb (decimal n)) block_operand_of (virtual_of (decimal n)))) stack
-    ∙ (ap (λ (o : Option (List ℕ)). case_of o block_operand_of (virtual_of (decimal n))) block
+    let fixed : behind_fixed (decimal n) ≡ None = ap behind_fixed is.parts ∙ no_fixed is.first is.rest (no_digit is.first 102 is.digit refl) in
+    let const : behind_const (decimal n) ≡ None = ap behind_const is.parts ∙ no_const is.first is.rest (no_digit is.first 99 is.digit refl) in
+    ap (λ (o : Option (List ℕ)). case_of o slot_of (case_of (behind_bb (decimal n)) block_operand_of (numbered_of (decimal n)))) stack
+    ∙ (ap (λ (o : Option (List ℕ)). case_of o block_operand_of (numbered_of (decimal n))) block
+    ∙ (ap (λ (o : Option (List ℕ)). case_of o fixed_of (case_of (behind_const (decimal n)) constant_of (virtual_of (decimal n)))) fixed
+    ∙ (ap (λ (o : Option (List ℕ)). case_of o constant_of (virtual_of (decimal n))) const
     ∙ (ap (λ (b : Bool). cond b (lexemes.Register (Virtual (limited (decimal n)))) lexemes.Other) (decimal_is_number n (omega (arith, small)))
-    ∙ ap (λ (m : ℕ). lexemes.Register (Virtual m)) (limited_decimal n small)))
+    ∙ ap (λ (m : ℕ). lexemes.Register (Virtual m)) (limited_decimal n small)))))
 
 -- ---- all registers
 

@@ -5,6 +5,7 @@ use Rattle.std.specs.Prelude.{codes, filter, IfSome, IsTrue}
 use Rattle.std.specs.List.{flat_map}
 use Rattle.std.specs.Fmt.{decimal, signed_decimal}
 use Rattle.std.proofs.lemmas.Fmt.{decimal_digit}
+use Rattle.std.proofs.lemmas.Bool.{false≢true}
 use Rattle.std.proofs.lemmas.List.Elements.{All-head, All-tail}
 use Rattle.rv64_instr.specs.declared.operand.Operand.{Operand}
 use Rattle.rv64_instr.specs.declared.operand.Operand.TheVariants.{Def, Use, ImplicitDef, ImplicitUse, Imm, Slot, Object, Part, Outgoing, Block, Symbol, Mask}
@@ -28,17 +29,18 @@ use Rattle.read_line.specs.declared.form.OperandForm.TheVariants as form
 use Rattle.read_line.specs.declared.form.RegisterForm.{RegisterForm}
 use Rattle.read_line.specs.Body.{body_line_of}
 use Rattle.read_item.specs.Opcode.{is_read}
-use Rattle.read_program.specs.Limited.{IsLimited, PlaceIsLimited, ValueIsLimited, VariableIsLimited, KindIsLimited, LocIsLimited}
+use Rattle.read_program.proofs.Operands.{IsLimitedIn, all_in_language}
+use Rattle.read_program.specs.Limited.{PlaceIsLimited, ValueIsLimited, VariableIsLimited, KindIsLimited, LocIsLimited, IsOfLanguage}
 use Rattle.mir_printer.specs.Spelling.{comma_separated, register_text, operand_text, is_definition, definitions_text, uses_text, instruction_text, number_text}
 use Rattle.mir_printer.specs.Spelling.{phi_place_text, expression_text, pair_expression_text, value_mark_text, kind_text}
-use Rattle.mir_printer.specs.Spelling.{location_text}
+use Rattle.mir_printer.specs.Spelling.{location_text, uses_behind}
 use Rattle.readback_items.specs.Forms.{register_form, no_register, operand_form, set_register, code_form, debug_form, value_form}
 use Rattle.readback_items.specs.Forms.{mark_form, place_form, kind_form}
 use Rattle.readback_items.specs.Laws.{NameIsBytes, HasByteNames, LinesSayForms}
 use Rattle.readback_items.proofs.Debug.{MayBePart, plain_phrase, argument_phrase, reference_phrase}
 use Rattle.readback_items.proofs.Items.{set_text_of, uses_text_of, line_says}
 use Rattle.readback_items.proofs.Lists.{texts, forms, AreRegisters}
-use Rattle.readback_items.proofs.Opcodes.{is_opcode, opcode, mnemonics}
+use Rattle.readback_items.proofs.Opcodes.{is_opcode, opcode, mnemonics, named_uses}
 use Rattle.readback_items.proofs.Phrases.{Phrase, PhraseOf, register_said, absent_said, integer_said, stack_said, node_said, operand_said}
 
 -- ---- the operands of code
@@ -81,7 +83,7 @@ one_use o os plain none said s = record {
       ∙ ap (λ (b : Bool). map operand_form (cond (not b) (o ∷ filter (λ x. not (is_definition x)) os) (filter (λ x. not (is_definition x)) os))) (sym plain);
 }
 
-one_more : (o : Operand) (os : List Operand) → IsLimited o → NameIsBytes o → Split os → Split (o ∷ os)
+one_more : (o : Operand) (os : List Operand) → IsLimitedIn false o → NameIsBytes o → Split os → Split (o ∷ os)
 one_more (Def r) os small bytes s = one_set r os small s
 one_more (Use r) os small bytes s = one_use (Use r) os refl refl (operand_said (Use r) small bytes) s
 one_more (ImplicitDef r) os small bytes s = one_use (ImplicitDef r) os refl refl (operand_said (ImplicitDef r) small bytes) s
@@ -89,17 +91,17 @@ one_more (ImplicitUse r) os small bytes s = one_use (ImplicitUse r) os refl refl
 one_more (Imm i) os small bytes s = one_use (Imm i) os refl refl (operand_said (Imm i) small bytes) s
 one_more (Slot n) os small bytes s = one_use (Slot n) os refl refl (operand_said (Slot n) small bytes) s
 one_more (Object n) os small bytes s = one_use (Object n) os refl refl (operand_said (Object n) small bytes) s
-one_more (Part half y) os small bytes s = absurd small
+one_more (Part half y) os small bytes s = absurd (false≢true small.0)
 one_more (Outgoing n) os small bytes s = absurd small
 one_more (Block n) os small bytes s = one_use (Block n) os refl refl (operand_said (Block n) small bytes) s
 one_more (Symbol name) os small bytes s = one_use (Symbol name) os refl refl (operand_said (Symbol name) small bytes) s
 one_more Mask os small bytes s = one_use Mask os refl refl (operand_said Mask small bytes) s
 
-split : (os : List Operand) → All IsLimited os → All NameIsBytes os → Split os
+split : (os : List Operand) → All (IsLimitedIn false) os → All NameIsBytes os → Split os
 split [] small bytes = nothing
 split (o ∷ os) small bytes =
-    one_more o os (All-head IsLimited o os small) (All-head NameIsBytes o os bytes)
-    (split os (All-tail IsLimited o os small) (All-tail NameIsBytes o os bytes))
+    one_more o os (All-head (IsLimitedIn false) o os small) (All-head NameIsBytes o os bytes)
+    (split os (All-tail (IsLimitedIn false) o os small) (All-tail NameIsBytes o os bytes))
 
 -- ---- texts of lists
 
@@ -132,16 +134,18 @@ phrases_are (q ∷ qs) = refl
 regrouped : (a b c d e : List ℕ) → (((a ++ b) ++ c) ++ d) ++ e ≡ a ++ (b ++ (c ++ (d ++ e)))
 regrouped a b c d e = simp append_assoc
 
-code_says : (i : Instruction) (k : Option ℕ) (loc : Loc) → IsTrue (is_read i.op) → All IsLimited i.operands → IfSome k (λ n. n ≤ MAX_NUMBER) → LocIsLimited loc
+code_says : (i : Instruction) (k : Option ℕ) (loc : Loc) → IsTrue (is_read false i.op) → All (IsLimitedIn false) i.operands →
+    IfSome k (λ n. n ≤ MAX_NUMBER) → LocIsLimited loc
     → All NameIsBytes i.operands →
-    body_line_of (codes "    " ++ (instruction_text i ++ number_text k ++ location_text loc)) ≡ Ok (lines.Item (code_form i k loc))
+    body_line_of false (codes "    " ++ (instruction_text i ++ number_text k ++ location_text loc)) ≡ Ok (lines.Item (code_form i k loc))
 code_says i k loc read small number at bytes =
     let s = split i.operands small bytes in
     let set : definitions_text (filter is_definition i.operands) ≡ set_text_of s.sets =
     definitions_are (filter is_definition i.operands) ∙ (ap set_text s.set_texts ∙ sets_are s.sets) in
-    let used : uses_text (filter (λ o. not (is_definition o)) i.operands) ≡ uses_text_of s.uses =
-    uses_are (filter (λ o. not (is_definition o)) i.operands) ∙ (ap use_text (sym s.use_texts) ∙ phrases_are s.uses) in
-    ap (λ (t : List ℕ). body_line_of (codes "    " ++ t))
+    let used : uses_text (uses_behind i.op i.operands) ≡ uses_text_of s.uses =
+    ap uses_text (named_uses i.op i.operands read) ∙ uses_are (filter (λ o. not (is_definition o)) i.operands)
+    ∙ (ap use_text (sym s.use_texts) ∙ phrases_are s.uses) in
+    ap (λ (t : List ℕ). body_line_of false (codes "    " ++ t))
     ((λ j. (((set j ++ mnemonic_of i.op) ++ used j) ++ number_text k) ++ location_text loc)
     ∙ regrouped (set_text_of s.sets) (mnemonic_of i.op) (uses_text_of s.uses) (number_text k) (location_text loc))
     ∙ (line_says s.uses k loc number at (mnemonic_of i.op) (opcode (mnemonic_of i.op) (mnemonics i.op read)) s.sets s.are
@@ -149,6 +153,7 @@ code_says i k loc read small number at bytes =
       definitions = sym s.set_forms j;
       opcode = mnemonic_of i.op;
       operands = s.use_forms j;
+      no_return = false;
       number = k;
       loc = loc;
       exceeds = false;
@@ -186,12 +191,12 @@ pair_grouped node comma expression word number operand closing at = simp append_
 
 module _ (v : VarId) (loc : Loc) (small : VariableIsLimited v) (at : LocIsLimited loc) where
   value_says : (text : List ℕ) (f : OperandForm) → PhraseOf text f →
-      body_line_of (codes "    " ++ (value_mark_text text v ++ location_text loc)) ≡ Ok (lines.Item (value_form f v loc))
+      body_line_of false (codes "    " ++ (value_mark_text text v ++ location_text loc)) ≡ Ok (lines.Item (value_form f v loc))
   value_says text f value =
       let none = absent_said in
       let node = node_said v.node small.0 in
       let expression = plain_phrase v.fragment (may_be v.fragment small.1) in
-      ap (λ (t : List ℕ). body_line_of (codes "    " ++ t))
+      ap (λ (t : List ℕ). body_line_of false (codes "    " ++ t))
       (value_text_is text (decimal v.node) (expression_text v.fragment) (location_text loc)
       ∙ (λ j. codes "DBG_VALUE" ++ ((32 ∷ comma_separated (sym value.text_is j ∷ sym none.text_is j ∷ sym node.text_is j ∷ sym expression.text_is j ∷ []))
       ++ ([] ++ location_text loc))))
@@ -200,7 +205,7 @@ module _ (v : VarId) (loc : Loc) (small : VariableIsLimited v) (at : LocIsLimite
       [] tt
       ∙ (λ j. Ok (lines.Item (debug_form (codes "DBG_VALUE") (value.form_is j ∷ none.form_is j ∷ node.form_is j ∷ expression.form_is j ∷ []) loc))))
 
-  mark_says : (m : MarkValue) → ValueIsLimited m → body_line_of (codes "    " ++ (kind_text (Mark v m) ++ location_text loc)) ≡ Ok (lines.Item
+  mark_says : (m : MarkValue) → ValueIsLimited m → body_line_of false (codes "    " ++ (kind_text (Mark v m) ++ location_text loc)) ≡ Ok (lines.Item
       (mark_form v m loc))
   mark_says Nothing is = value_says (codes "$noreg") no_register absent_said
   mark_says (Constant c) is = value_says (signed_decimal c) (form.Integer (Some c)) (integer_said c is)
@@ -209,7 +214,7 @@ module _ (v : VarId) (loc : Loc) (small : VariableIsLimited v) (at : LocIsLimite
       let node = node_said v.node small.0 in
       let expression = argument_phrase v.fragment (may_be v.fragment small.1) in
       let pair = reference_phrase q is.0 is.1 in
-      ap (λ (t : List ℕ). body_line_of (codes "    " ++ t))
+      ap (λ (t : List ℕ). body_line_of false (codes "    " ++ t))
       (pair_text_is (decimal v.node) (pair_expression_text v.fragment) (decimal q.number) (decimal q.operand) (location_text loc)
       ∙ (λ j. codes "DBG_INSTR_REF" ++ ((32 ∷ comma_separated (sym node.text_is j ∷ sym expression.text_is j ∷ sym pair.text_is j ∷ []))
       ++ ([] ++ location_text loc))))
@@ -241,21 +246,21 @@ phi_text_is : (place number at : List ℕ) → codes "DBG_PHI " ++ place ++ code
 phi_text_is place number at = simp append_assoc
 
 phi_says : (p : Option Place) (k : ℕ) (loc : Loc) → PlaceIsLimited p → k ≤ MAX_NUMBER → LocIsLimited loc →
-    body_line_of (codes "    " ++ (kind_text (Phi p k) ++ location_text loc)) ≡ Ok (lines.Item (kind_form (Phi p k) loc))
+    body_line_of false (codes "    " ++ (kind_text (Phi p k) ++ location_text loc)) ≡ Ok (lines.Item (kind_form (Phi p k) loc))
 phi_says p k loc is small at =
     let source = place_said p is in
     let number = integer_said (pos k) (omega (arith, small)) in
-    ap (λ (t : List ℕ). body_line_of (codes "    " ++ t))
+    ap (λ (t : List ℕ). body_line_of false (codes "    " ++ t))
     (phi_text_is (phi_place_text p) (decimal k) (location_text loc)
     ∙ (λ j. codes "DBG_PHI" ++ ((32 ∷ comma_separated (sym source.text_is j ∷ sym number.text_is j ∷ [])) ++ ([] ++ location_text loc))))
     ∙ (line_says (source.phrase ∷ number.phrase ∷ []) None loc tt at (codes "DBG_PHI") (opcode (codes "DBG_PHI") phi_opcode) [] tt
     ∙ (λ j. Ok (lines.Item (debug_form (codes "DBG_PHI") (source.form_is j ∷ number.form_is j ∷ []) loc))))
 
-kind_says : (kind : ItemKind) (loc : Loc) → KindIsLimited kind → LocIsLimited loc → HasByteNames kind →
-    body_line_of (codes "    " ++ (kind_text kind ++ location_text loc)) ≡ Ok (lines.Item (kind_form kind loc))
-kind_says (Code i k) loc is at names = code_says i k loc is.2 is.0 is.1 at names
-kind_says (Mark v m) loc is at names = mark_says v loc is.0 at m is.1
-kind_says (Phi p k) loc is at names = phi_says p k loc is.0 is.1 at
+kind_says : (kind : ItemKind) (loc : Loc) → KindIsLimited kind → IsOfLanguage false kind → LocIsLimited loc → HasByteNames kind →
+    body_line_of false (codes "    " ++ (kind_text kind ++ location_text loc)) ≡ Ok (lines.Item (kind_form kind loc))
+kind_says (Code i k) loc is language at names = code_says i k loc language.1 (all_in_language false i.operands is.0 language.0) is.1 at names
+kind_says (Mark v m) loc is language at names = mark_says v loc is.0 at m is.1
+kind_says (Phi p k) loc is language at names = phi_says p k loc is.0 is.1 at
 
 pub lines_say_forms : LinesSayForms
-lines_say_forms i is = kind_says i.kind i.loc is.kind is.loc is.names
+lines_say_forms i is = kind_says i.kind i.loc is.kind is.language is.loc is.names

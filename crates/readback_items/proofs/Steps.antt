@@ -1,5 +1,5 @@
 -- Lines of blocks are read one after the other.
-use Rattle.std.proofs.Common.{◌≡◌, ℕ, ◌≤◌, List, [], ◌∷◌, ◌++◌, map, All, Option, Some, None, Result, Ok, refl, ap, ◌∙◌}
+use Rattle.std.proofs.Common.{◌≡◌, false, ℕ, ◌≤◌, List, [], ◌∷◌, ◌++◌, map, All, Option, Some, None, Result, Ok, refl, ap, ◌∙◌}
 use Rattle.std.specs.Prelude.{option_map}
 use Rattle.std.proofs.lemmas.List.Elements.{All-head, All-tail}
 use Rattle.read_refusal.specs.declared.kind.RefusalKind.{RefusalKind}
@@ -53,29 +53,29 @@ last_more body b i last =
 
 module _ (meta : Maps) where
   item_read : (body : Body) (b : Block) (i : Item) → body.last ≡ Some b → IsReadableItem meta i →
-      item_cause body (judged_kind i.kind) i.loc (entries_named i) ≡ None → behind_line meta body (item_line i) ≡ Ok (with_read body i)
+      item_cause body (judged_kind i.kind) i.loc (entries_named i) ≡ None → behind_line false meta body (item_line i) ≡ Ok (with_read body i)
   item_read body b i last is none =
-      ap (line_said meta body) (lines_say_forms i is.writable)
-      ∙ ap (λ (o : Option Block). item_said meta body o (form_of i)) last
+      ap (line_said false meta body) (lines_say_forms i is.writable)
+      ∙ ap (λ (o : Option Block). item_said false meta body o (form_of i)) last
       ∙ ap (judged_said body (form_of i).number) (forms_are_judged meta i is.writable is.readable)
       ∙ ap (λ (o : Option RefusalKind). unless o (with_read body i)) none
 
-  label_read : (body : Body) (n : ℕ) → n ≤ MAX_NUMBER → label_cause body n ≡ None → behind_line meta body (label_line n) ≡ Ok (with_label body n)
+  label_read : (body : Body) (n : ℕ) → n ≤ MAX_NUMBER → label_cause body n ≡ None → behind_line false meta body (label_line n) ≡ Ok (with_label body n)
   label_read body n small none =
-      ap (line_said meta body) (labels_read_back n small) ∙ ap (λ (o : Option RefusalKind). unless o (with_label body n)) none
+      ap (line_said false meta body) (labels_read_back n small) ∙ ap (λ (o : Option RefusalKind). unless o (with_label body n)) none
 
   -- one line
-  line_read : (body next : Body) (l : Line) (ls : List Line) (text : List ℕ) → l.text ≡ text → behind_line meta body text ≡ Ok next →
-      body_behind meta body (l ∷ ls) ≡ body_behind meta next ls
+  line_read : (body next : Body) (l : Line) (ls : List Line) (text : List ℕ) → l.text ≡ text → behind_line false meta body text ≡ Ok next →
+      body_behind false meta body (l ∷ ls) ≡ body_behind false meta next ls
   unfolding body_behind
   line_read body next l ls text same is =
-      ap (λ (r : Result Body RefusalKind). and_then l.number r (λ b. body_behind meta b ls)) (ap (behind_line meta body) same ∙ is)
+      ap (λ (r : Result Body RefusalKind). and_then l.number r (λ b. body_behind false meta b ls)) (ap (behind_line false meta body) same ∙ is)
 
   -- some lines are read, and others are left
   record Goes (body : Body) (lines : List Line) (rest : List (List ℕ)) (next : Body) : Type 0 where
     more : List Line
     texts : texts_of more ≡ rest
-    same : body_behind meta body lines ≡ body_behind meta next more
+    same : body_behind false meta body lines ≡ body_behind false meta next more
 
   items_read : (body : Body) (b : Block) (items : List Item) (lines : List Line) (rest : List (List ℕ)) → body.last ≡ Some b →
       All (IsReadableItem meta) items → ItemsFit body items → texts_of lines ≡ map item_line items ++ rest →
@@ -96,7 +96,7 @@ module _ (meta : Maps) where
 
   pub blocks_read : (body : Body) (blocks : List Block) (lines : List Line) → All (λ b. b.id ≤ MAX_NUMBER) blocks →
       All (λ (b : Block). All (IsReadableItem meta) b.items) blocks → BlocksFit body blocks → texts_of lines ≡ body_lines blocks →
-      body_behind meta body lines ≡ Ok (with_blocks body blocks)
+      body_behind false meta body lines ≡ Ok (with_blocks body blocks)
   unfolding body_behind
   blocks_read body [] [] small all fit texts = refl
   blocks_read body [] (l ∷ ls) small all fit texts = absurd cc

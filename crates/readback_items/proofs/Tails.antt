@@ -1,5 +1,5 @@
 -- The implicit operands at the end of an instruction: they are read as they were printed.
-use Rattle.std.proofs.Common.{◌≡◌, ◌<◌, Bool, true, not, leb, List, [], ◌∷◌, Some, map, refl, ap, arith}
+use Rattle.std.proofs.Common.{◌≡◌, ◌<◌, Bool, false, true, not, leb, List, [], ◌∷◌, Some, map, refl, ap, arith}
 use Rattle.std.specs.Prelude.{filter, All}
 use Rattle.std.specs.List.{flat_map, list_all}
 use Rattle.std.proofs.lemmas.Bool.{and_parts, ltb-true, leb-true}
@@ -11,7 +11,7 @@ use Rattle.read_token.specs.declared.lexeme.Flag.TheVariants.{Implicit as Implic
 use Rattle.read_item.specs.Code.{before, used, placed}
 use Rattle.mir_printer.specs.Printable.{as_slot}
 use Rattle.mir_printer.specs.Spelling.{is_definition}
-use Rattle.read_program.specs.Limited.{IsLimited}
+use Rattle.read_program.proofs.Operands.{IsLimitedIn}
 use Rattle.readback_items.specs.Forms.{operand_form, set_register}
 use Rattle.readback_items.proofs.Registers.{number_is}
 
@@ -55,7 +55,7 @@ implicit_tail (ImplicitDef r) e = ltb-true r 32 e
 implicit_tail (ImplicitUse r) e = ltb-true r 32 e
 implicit_tail o e = absurd cc
 
-argument_tail : (o : Operand) → is_argument o ≡ true → IsLimited o → IsTail o
+argument_tail : (o : Operand) → is_argument o ≡ true → IsLimitedIn false o → IsTail o
 argument_tail (ImplicitDef r) e small = small
 argument_tail (ImplicitUse r) e small = small
 argument_tail (Outgoing n) e small = absurd small
@@ -68,11 +68,11 @@ result_tail o e = absurd cc
 pub implicits : (rest : List Operand) → list_all is_implicit rest ≡ true → Tail rest
 implicits = tails is_implicit implicit_tail
 
-pub arguments : (rest : List Operand) → list_all is_argument rest ≡ true → All IsLimited rest → Tail rest
+pub arguments : (rest : List Operand) → list_all is_argument rest ≡ true → All (IsLimitedIn false) rest → Tail rest
 arguments [] e small = no_tail
 arguments (o ∷ os) e small =
     let parts = and_parts (is_argument o) (list_all is_argument os) e in
-    tail_more o os (argument_tail o parts.0 (All-head IsLimited o os small)) (arguments os parts.1 (All-tail IsLimited o os small))
+    tail_more o os (argument_tail o parts.0 (All-head (IsLimitedIn false) o os small)) (arguments os parts.1 (All-tail (IsLimitedIn false) o os small))
 
 pub results : (rest : List Operand) → list_all is_result rest ≡ true → Tail rest
 results = tails is_result result_tail

@@ -113,7 +113,7 @@ pub record AreWithin (blocks : List Block) : Type 0 where
 -- lines are read as these blocks, with the numbers of these blocks, of the `%stack.N` on the lines, and of the stack objects that instructions name
 pub record ReadsBlocks (meta : Maps) (lines : List Line) (blocks : List Block) : Type 0 where
   pub body : Body
-  pub read : body_of meta lines ≡ Ok body
+  pub read : body_of false meta lines ≡ Ok body
   pub made : blocks_of body ≡ map judged_block blocks
   pub ids : body.ids ≡ ids_of blocks
   pub entries : body.entries ≡ flat_map entries_named (items_of blocks)

@@ -1,5 +1,5 @@
 -- The items that printed lines are judged as.
-use Rattle.std.specs.Prelude.{◌≡◌, ◌≤◌, if◌then◌else◌, List, map, length, All, IsTrue, Ok}
+use Rattle.std.specs.Prelude.{◌≡◌, false, ◌≤◌, if◌then◌else◌, List, map, length, All, IsTrue, Ok}
 use Rattle.rv64_instr.specs.declared.op.Op.{Op}
 use Rattle.rv64_instr.specs.declared.operand.Operand.{Operand}
 use Rattle.rv64_instr.specs.Form.{has_form}
@@ -48,4 +48,4 @@ IsReadable meta loc (Phi p k) = IsDebug meta loc (Phi p k)
 -- The form of an item's line is judged as the item, with the stack entries that the line names.
 abbrev pub FormsAreJudged : Type 0
 FormsAreJudged = (meta : Maps) (i : Item) → IsWritable i → IsReadable meta i.loc i.kind →
-    judged meta (form_of i) ≡ Ok (judged_as.Item (record { kind = judged_kind i.kind; loc = i.loc; entries = entries_of (form_of i).operands }))
+    judged false meta (form_of i) ≡ Ok (judged_as.Item (record { kind = judged_kind i.kind; loc = i.loc; entries = entries_of (form_of i).operands }))

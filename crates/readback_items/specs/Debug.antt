@@ -1,5 +1,5 @@
 -- Debug values and DBG_PHIs: their printed lines are read back unchanged.
-use Rattle.std.specs.Prelude.{◌≡◌, ℕ, ◌++◌, codes, List, Option, Some, None, Ok}
+use Rattle.std.specs.Prelude.{◌≡◌, false, ℕ, ◌++◌, codes, List, Option, Some, None, Ok}
 use Rattle.rv64_instr.specs.declared.place.Place.{Place}
 use Rattle.rv64_instr.specs.declared.place.Place.TheVariants.{Register, Slot, Const}
 use Rattle.read_metadata.specs.Maps.{Maps}
@@ -45,8 +45,8 @@ IsDebug meta loc (Phi p k) = PlaceIsKept p
 -- a line is read as an item of this kind, with this debug location
 pub record ReadsAs (meta : Maps) (line : List ℕ) (kind : ItemKind) (loc : Loc) : Type 0 where
   pub form : ItemForm
-  pub says : body_line_of line ≡ Ok (OfItem form)
-  pub means : judged meta form ≡ Ok (judged_as.Item (record { kind = kind; loc = loc; entries = entries_of form.operands }))
+  pub says : body_line_of false line ≡ Ok (OfItem form)
+  pub means : judged false meta form ≡ Ok (judged_as.Item (record { kind = kind; loc = loc; entries = entries_of form.operands }))
 
 -- The printed line of a debug value or DBG_PHI is read back as it, given the same metadata.
 abbrev pub DebugLinesReadBack : Type 0

@@ -77,6 +77,7 @@ code_form i number loc = record {
   definitions = flat_map set_register i.operands;
   opcode = mnemonic_of i.op;
   operands = map operand_form (filter (λ o. not (is_definition o)) i.operands);
+  no_return = false;
   number = number;
   loc = loc;
   exceeds = false;
@@ -84,7 +85,7 @@ code_form i number loc = record {
 
 -- the form of a debug item's line: it has no registers before the `=`, and its numbers are operands
 abbrev pub debug_form : (opcode : List ℕ) → List OperandForm → Loc → ItemForm
-debug_form opcode operands loc = record { definitions = []; opcode = opcode; operands = operands; number = None; loc = loc; exceeds = false }
+debug_form opcode operands loc = record { definitions = []; opcode = opcode; operands = operands; no_return = false; number = None; loc = loc; exceeds = false }
 
 -- the expression of a `DBG_VALUE`: empty, or a fragment
 abbrev pub plain_expression : Option Bytes → Expression

@@ -1,5 +1,5 @@
 -- The text of a stripped program is read as that program.
-use Rattle.std.proofs.Common.{◌≡◌, ℕ, ◌+◌, ◌<◌, ◌≤◌, true, List, [], ◌∷◌, ◌++◌, map, length, All, Ok}
+use Rattle.std.proofs.Common.{◌≡◌, false, ℕ, ◌+◌, ◌<◌, ◌≤◌, true, List, [], ◌∷◌, ◌++◌, map, length, All, Ok}
 use Rattle.std.proofs.Common.{refl, sym, ap, subst, ◌∙◌, arith, append_assoc, append-nil}
 use Rattle.std.specs.List.{flat_map, list_all}
 use Rattle.std.proofs.lemmas.Bool.{and_parts}
@@ -48,7 +48,7 @@ functions_again meta again n before (q ∷ qs) few all =
       (λ le. absurd (omega (arith, le, few))),
       (λ lt. (
         Ok (reread q),
-        (functions_read_back meta good.0.doc q good.0.parses good.1).parses again n,
+        (functions_read_back meta good.0.doc q good.0.is.plain good.0.parses good.1).parses again n,
         subst (λ (l : List Parsed). FunctionsFrom again (before ++ reread q ∷ []) (documents_at next (map strip_document qs)) (Ok l))
             (append_assoc before (reread q ∷ []) (map reread qs)) rest,
       )),
@@ -63,7 +63,7 @@ text_is (q ∷ qs) =
     ∙ (λ i. function_fed (stripped q.func) i ++ text_is qs i)
 
 is_document : (meta : Maps) (q : Parsed) → IsGood meta q → IsDocument (strip_document q)
-is_document meta q good = (functions_read_back meta good.0.doc q good.0.parses good.1).document
+is_document meta q good = (functions_read_back meta good.0.doc q good.0.is.plain good.0.parses good.1).document
 
 -- ---- bytes
 
@@ -106,17 +106,17 @@ texts_same (q ∷ qs) = λ i. one_same q i ++ texts_same qs i
 -- ---- a program
 
 text_read : (meta : Maps) (fs : List Parsed) → length fs ≤ MAX_FUNCTIONS → All (IsGood meta) fs →
-    ReadsText (stripped_text fs) (Ok (record { functions = map reread fs; meta = metadata_of [] }))
+    ReadsText false (stripped_text fs) (Ok (record { functions = map reread fs; meta = metadata_of [] }))
 text_read meta fs few all =
     let ds = map strip_document fs in
     let documents = All-map IsDocument strip_document fs (All-weaker (IsGood meta) (λ q. IsDocument (strip_document q)) (is_document meta) fs all) in
-    let found = sym (ap documents_of (text_is fs)) ∙ documents_read_back ds documents in
+    let found = sym (ap (documents_of false) (text_is fs)) ∙ documents_read_back ds documents in
     subst (λ (x : Documents). ReadsDocuments x (Ok (record { functions = map reread fs; meta = metadata_of [] }))) (sym found)
     (Ok (map reread fs), functions_again meta (metadata_of []) 1 [] fs (omega (arith, few)) all, refl)
 
 pub stripped_texts_are_read : StrippedTextsAreRead
 stripped_texts_are_read text p bytes reads =
-    let meta = metadata_of (documents_of text).meta in
+    let meta = metadata_of (documents_of false text).meta in
     let read = program_read text p bytes reads in
     let all = both (WasRead DocBytes meta) (λ (q : Parsed). HasNamesOfBytes q.func) p.functions read.1 (names_are_of_bytes text p bytes reads) in
     record { bytes = functions_bytes meta p.functions all; reads = text_read meta p.functions read.0 all; same = texts_same p.functions }

@@ -103,6 +103,13 @@ abbrev pub is_held_tail_use : Operand → Bool
 is_held_tail_use (ImplicitUse r) = nat_eq r 2 || is_held_tail_register r
 is_held_tail_use _ = false
 
+-- an opcode of a call by a register: the first operand is the callee's register
+abbrev pub has_register_callee : Op → Bool
+has_register_callee PseudoCallIndirect = true
+has_register_callee PseudoTailIndirect = true
+has_register_callee NoReturnCallIndirect = true
+has_register_callee _ = false
+
 -- `rd = OP rs1, rs2`
 abbrev pub fits_registers : List Operand → Bool
 fits_registers (Def rd ∷ Use rs1 ∷ Use rs2 ∷ rest) = list_all is_implicit rest

@@ -1,5 +1,6 @@
 -- Addresses that are known when a program is linked, and their halves, as instructions have them.
-use Rattle.std.specs.Prelude.{ℕ, ℤ, pos, ◌*ℤ◌, ◌-ℤ◌, ◌+◌, ◌/◌, ◌%◌, ◌^◌, Bool, false, cond, nat_eq, nat_lt, List, [], ◌∷◌}
+use Rattle.std.specs.Prelude.{ℕ, ℤ, pos, ◌*ℤ◌, ◌-ℤ◌, ◌+◌, ◌*◌, ◌/◌, ◌%◌, ◌^◌, Bool, false, cond, nat_eq, nat_lt, List, [], ◌∷◌, codes}
+use Rattle.std.specs.Fmt.{decimal}
 use Rattle.std.specs.Str.{bytes_eq}
 use Rattle.rv64_instr.specs.declared.symbol.Symbol.{Symbol}
 use Rattle.rv64_instr.specs.declared.symbol.Symbol.TheVariants.{Global, Constant}
@@ -36,7 +37,21 @@ is_same_symbol (Global a) (Global b) = bytes_eq a b
 is_same_symbol (Constant a) (Constant b) = nat_eq a b
 is_same_symbol _ _ = false
 
--- the address that pairs of a symbol and its address give a symbol: that of its first pair, and 0 if it has none
+-- a fold of bytes, modulo 2^32
+abbrev pub folded : (start : ℕ) → List ℕ → ℕ
+folded start [] = start
+folded start (b ∷ bs) = folded ((31 * start + b) % 2 ^ 32) bs
+
+-- the fold of a symbol's name: constant N of a pool is named `constN`
+abbrev pub folded_name : Symbol → ℕ
+folded_name (Global name) = folded 0 name
+folded_name (Constant n) = folded (folded 0 (codes "const")) (decimal n)
+
+-- the address that a symbol has by its name: one of 4,096, at a distance of 64 KiB, from 2^28 on
+abbrev pub default_address : Symbol → ℕ
+default_address y = 268435456 + 65536 * (folded_name y % 4096)
+
+-- the address that pairs of a symbol and its address give a symbol: that of its first pair, and its default address if it has none
 abbrev pub addresses_in : List (Symbol × ℕ) → Symbol → ℕ
-addresses_in [] y = 0
+addresses_in [] y = default_address y
 addresses_in (p ∷ rest) y = cond (is_same_symbol p.0 y) p.1 (addresses_in rest y)

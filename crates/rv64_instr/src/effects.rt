@@ -306,7 +306,7 @@ impl Decoded {
     }
 
     /// Whether it sets the register; a definition of x0 counts, though its write is dropped.
-    fn sets_register(&self, r: Reg) -> bool
+    pub fn sets_register(&self, r: Reg) -> bool
         ensures { (row : Row) → Shows self.now row → result ≡ list_any (nat_eq r) (sets row) }
     {
         match *self {

@@ -1,9 +1,11 @@
 //! The halves of addresses that are known when a program is linked.
 
-ghost use Rattle.std.specs.Prelude.{◌≡◌, IsTrue, pos, negsuc};
+ghost use Rattle.std.specs.Prelude.{◌≡◌, ◌<◌, ◌^◌, IsTrue, pos, negsuc};
+ghost use Rattle.std.specs.Fmt.{decimal};
 ghost use Rattle.std.specs.Option.{option_copied};
 ghost use Rattle.rv64_instr.specs.Form.{is_within};
-ghost use Rattle.rv64_instr.specs.Linked.{addresses_in, half_immediate, immediate_value, is_same_symbol};
+ghost use Rattle.rv64_instr.specs.Linked.{addresses_in, default_address, folded, folded_name};
+ghost use Rattle.rv64_instr.specs.Linked.{half_immediate, immediate_value, is_same_symbol};
 ghost use Rattle.rv64_instr.specs.Linked.{linked_address, linked_value};
 ghost use Rattle.rv64_instr.specs.LocationEffects.{address_named, half_named, part_address, part_half};
 ghost use Rattle.rv64_instr.specs.Row.{row_of};
@@ -13,6 +15,7 @@ use crate::arithmetic::extend32;
 use crate::instr::Instr;
 use crate::operand::Operand;
 use crate::symbol::{Half, LinkedAddress, Symbol, SymbolAddresses};
+use itoa::Buffer;
 
 impl Instr {
     /// The address of which the instruction has a half, and `None` exactly if it has none. It takes no memory.
@@ -116,10 +119,49 @@ fn address_in(symbols: &SymbolAddresses, symbol: &Symbol) -> u64
             return pair.1;
         }
     }
-    0
+    default_address(symbol)
 }
 
-fn is_same(a: &Symbol, b: &Symbol) -> bool
+/// The address of a symbol to which none is given: it depends on the symbol's name alone.
+fn default_address(symbol: &Symbol) -> u64
+    ensures { result ≡ default_address symbol.now }
+{
+    268_435_456 + 65_536 * (folded_name(symbol) % 4096)
+}
+
+fn folded_name(symbol: &Symbol) -> u64
+    ensures { result ≡ folded_name symbol.now }
+{
+    match symbol {
+        Symbol::Global(name) => folded(0, name.as_slice()),
+        Symbol::Constant(number) => folded_number(folded(0, b"const"), *number),
+    }
+}
+
+/// The fold of the decimal digits of a number.
+fn folded_number(start: u64, number: u32) -> u64
+    requires { start < 2 ^ 32 }
+    ensures { result ≡ folded start (decimal number) }
+{
+    let mut buffer = Buffer::new();
+    folded(start, buffer.format(number).as_bytes())
+}
+
+/// A fold of bytes, modulo 2^32.
+fn folded(start: u64, bytes: &[u8]) -> u64
+    requires { start < 2 ^ 32 }
+    ensures value { result ≡ folded start bytes.now }
+    ensures below { result < 2 ^ 32 }
+{
+    let mut sum = start;
+    for byte in bytes {
+        sum = (31 * sum + u64::from(*byte)) % (1 << 32);
+    }
+    sum
+}
+
+/// Whether the two are one symbol.
+pub fn is_same(a: &Symbol, b: &Symbol) -> bool
     ensures { result ≡ is_same_symbol a.now b.now }
 {
     match (a, b) {

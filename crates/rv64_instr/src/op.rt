@@ -1,6 +1,7 @@
 //! Opcodes, in classes that have the same form of operands, and their names.
 
 ghost use Rattle.std.specs.Prelude.{◌≡◌, Some, IfSome};
+ghost use Rattle.rv64_instr.specs.Form.{has_register_callee};
 ghost use Rattle.rv64_instr.specs.Mnemonic.{mnemonic_of, register_name, immediate_name, branch_name, load_name};
 ghost use Rattle.rv64_instr.specs.Mnemonic.{store_name, Names, NamesByPlace, NamesElsewhere};
 ghost use Rattle.rv64_instr.specs.steps.Names.{NamesByValue, callee_named};
@@ -219,6 +220,16 @@ impl Op {
             Op::NoReturnCall => "noreturn PseudoCALL",
             Op::NoReturnCallIndirect => "noreturn PseudoCALLIndirect",
         }
+    }
+
+    /// Whether it is the opcode of a call by a register, whose first operand is the callee's register.
+    pub fn has_register_callee(self) -> bool
+        ensures { result ≡ has_register_callee self }
+    {
+        matches!(
+            self,
+            Op::PseudoCallIndirect | Op::PseudoTailIndirect | Op::NoReturnCallIndirect
+        )
     }
 
     /// The opcode of a name in MIR, and `None` exactly if no opcode has that name.

@@ -32,7 +32,7 @@ pub enum Half {
     Lower,
 }
 
-/// The addresses of symbols, in pairs. The first pair of a symbol counts, and a symbol without one is at 0.
+/// The addresses of symbols, in pairs. The first pair of a symbol counts, and a symbol without one has an address by its name.
 pub type SymbolAddresses = List<(Symbol, u64)>;
 
 /// Equal addresses of symbols.

@@ -2,8 +2,12 @@
 
 use mir_func::location::Loc;
 use read_line::body::body_line;
-use read_line::form::{BodyLine, Expression, FormError, ItemForm, OperandForm, RegisterForm};
+use read_line::form::{
+    AddressForm, BodyLine, Expression, FormError, ItemForm, OperandForm, RegisterForm,
+};
 use read_token::lexeme::{BEYOND, Flag, RegisterName};
+use rv64_instr::name::Name;
+use rv64_instr::symbol::{Half, Symbol};
 use std::alloc::{AllocError, Global};
 use std::test::Fail;
 
@@ -162,6 +166,63 @@ const LINES: &[(&str, &str)] = &[
     ("    _add $x10", "BadLine"),
 ];
 
+/// Lines with what they say, and what they say in the linked language. `hi` and `lo` stand before halves of addresses,
+/// and what is added to an address behind it.
+const LINKED_LINES: &[(&str, &str, &str)] = &[
+    (
+        "    $x10 = LUI target-flags(riscv-hi) @g",
+        "x10 = LUI; @g",
+        "x10 = LUI; hi @g",
+    ),
+    (
+        "    SW $x10, $x11, target-flags(riscv-lo) @g - 8",
+        "BadLine",
+        "SW; x10; x11; lo @g -8",
+    ),
+    (
+        "    SW $x10, $x11, target-flags(riscv-lo) @g - 2147483648",
+        "BadLine",
+        "SW; x10; x11; lo @g -2147483648",
+    ),
+    (
+        "    SW $x10, $x11, target-flags(riscv-lo) @g + 2147483648",
+        "BadLine",
+        "SW; x10; x11; lo @g large",
+    ),
+    (
+        "    $x11 = LD $x10, target-flags(riscv-lo) %const.1 + 8, debug-instr-number 1",
+        "BadLine",
+        "x11 = LD; x10; lo constant 1 8; number 1",
+    ),
+    (
+        "    $x10 = PseudoMovAddr target-flags(riscv-hi) @g + 5, target-flags(riscv-lo) @g + 5",
+        "BadLine",
+        "x10 = PseudoMovAddr; hi @g 5; lo @g 5",
+    ),
+    (
+        "    noreturn PseudoCALL @n, mask, implicit $x11",
+        "noreturn PseudoCALL; @n; mask; +x11",
+        "noreturn PseudoCALL; @n; mask; +x11",
+    ),
+    (
+        "    $x11 = ADDI %fixed-stack.1, 8",
+        "BadLine",
+        "x11 = ADDI; fixed 1; 8",
+    ),
+    (
+        "    DBG_VALUE @g + 4, $noreg, !11, !DIExpression()",
+        "BadLine",
+        "DBG_VALUE; @g 4; noreg; !11; empty",
+    ),
+    (
+        "    DBG_VALUE i64 5, $noreg, !11, !DIExpression()",
+        "BadLine",
+        "DBG_VALUE; literal; noreg; !11; empty",
+    ),
+    ("    successors:", "passed", "closed"),
+    ("    successors: %bb.1(0x80000000)", "passed", "passed"),
+];
+
 /// Appends a number, and the word `beyond` for one above the limit.
 fn push_number(alloc: Global, text: &mut String, n: u32) -> Result<(), AllocError> {
     if n < BEYOND {
@@ -234,6 +295,26 @@ fn push_numbered(alloc: Global, text: &mut String, word: &str, n: u32) -> Result
     push_number(alloc, text, n)
 }
 
+fn push_name(text: &mut String, name: &Name) -> Result<(), AllocError> {
+    text.push_str("@")?;
+    for b in name.as_slice() {
+        text.push(char::from(*b))?;
+    }
+    Ok(())
+}
+
+fn push_address(alloc: Global, text: &mut String, address: &AddressForm) -> Result<(), AllocError> {
+    match &address.symbol {
+        Symbol::Global(name) => push_name(text, name)?,
+        Symbol::Constant(n) => push_numbered(alloc, text, "constant ", *n)?,
+    }
+    match address.addend {
+        Some(0) => Ok(()),
+        Some(i) => text.push_str(format!(in alloc; " {i}")?.as_str()),
+        None => text.push_str(" large"),
+    }
+}
+
 fn push_operand(alloc: Global, text: &mut String, operand: &OperandForm) -> Result<(), AllocError> {
     match operand {
         OperandForm::Register(form) => push_register(alloc, text, *form),
@@ -241,13 +322,18 @@ fn push_operand(alloc: Global, text: &mut String, operand: &OperandForm) -> Resu
         OperandForm::Integer(None) => text.push_str("large"),
         OperandForm::Slot(n) => push_numbered(alloc, text, "slot ", n.number()),
         OperandForm::Block(n) => push_numbered(alloc, text, "block ", n.number()),
-        OperandForm::Symbol(name) => {
-            text.push_str("@")?;
-            for b in name.as_slice() {
-                text.push(char::from(*b))?;
-            }
-            Ok(())
+        OperandForm::Symbol(name) => push_name(text, name),
+        OperandForm::Part(Half::Upper, address) => {
+            text.push_str("hi ")?;
+            push_address(alloc, text, address)
         }
+        OperandForm::Part(Half::Lower, address) => {
+            text.push_str("lo ")?;
+            push_address(alloc, text, address)
+        }
+        OperandForm::Address(address) => push_address(alloc, text, address),
+        OperandForm::Fixed(n) => push_numbered(alloc, text, "fixed ", *n),
+        OperandForm::Literal => text.push_str("literal"),
         OperandForm::Mask => text.push_str("mask"),
         OperandForm::Node(n) => push_numbered(alloc, text, "!", n.number()),
         OperandForm::Expression(expression) => push_expression(alloc, text, *expression),
@@ -290,6 +376,9 @@ fn push_definitions(alloc: Global, text: &mut String, item: &ItemForm) -> Result
 
 fn push_item(alloc: Global, text: &mut String, item: &ItemForm) -> Result<(), AllocError> {
     push_definitions(alloc, text, item)?;
+    if item.no_return {
+        text.push_str("noreturn ")?;
+    }
     for b in item.opcode.as_slice() {
         text.push(char::from(*b))?;
     }
@@ -308,10 +397,11 @@ fn push_item(alloc: Global, text: &mut String, item: &ItemForm) -> Result<(), Al
 }
 
 /// What a line says, in the table's words.
-fn described(alloc: Global, line: &str) -> Result<String, AllocError> {
+fn described(alloc: Global, linked: bool, line: &str) -> Result<String, AllocError> {
     let mut text = String::new(alloc);
-    match body_line(alloc, line.as_bytes()) {
+    match body_line(alloc, linked, line.as_bytes()) {
         Ok(BodyLine::Passed) => text.push_str("passed")?,
+        Ok(BodyLine::Closed) => text.push_str("closed")?,
         Ok(BodyLine::Label(Some(n))) => push_numbered(alloc, &mut text, "label ", n.number())?,
         Ok(BodyLine::Label(None)) => text.push_str("label beyond")?,
         Ok(BodyLine::Item(item)) => push_item(alloc, &mut text, &item)?,
@@ -326,8 +416,19 @@ fn described(alloc: Global, line: &str) -> Result<String, AllocError> {
 #[test]
 fn reads_lines(rt: HostRuntime) -> Result<(), Fail> {
     for (line, expected) in LINES {
-        let text = described(rt.alloc(), line)?;
+        let text = described(rt.alloc(), false, line)?;
         assert_eq!(rt; text.as_str(), *expected, "{line}");
+    }
+    Ok(())
+}
+
+#[test]
+fn reads_linked_lines(rt: HostRuntime) -> Result<(), Fail> {
+    for (line, plain, linked) in LINKED_LINES {
+        let text = described(rt.alloc(), false, line)?;
+        assert_eq!(rt; text.as_str(), *plain, "{line}");
+        let text = described(rt.alloc(), true, line)?;
+        assert_eq!(rt; text.as_str(), *linked, "{line}");
     }
     Ok(())
 }

@@ -39,7 +39,7 @@ fn push_documents(told: &mut String, found: &Documents) -> Result<(), AllocError
 /// Appends the documents of a text with the numbers of their lines, and the line where it is no sequence of documents.
 pub fn push_documents_of(alloc: Global, told: &mut String, text: &[u8]) -> Result<(), AllocError> {
     if text.len() < 1 << 20 {
-        push_documents(told, &documents(alloc, text)?)
+        push_documents(told, &documents(alloc, false, text)?)
     } else {
         Ok(())
     }

@@ -63,7 +63,7 @@ fn push_read(
 ) -> Result<(), AllocError> {
     let bytes = Bytes::from_slice(alloc, text.as_bytes())?;
     let mut input = MemorySource::new(bytes, CallNumbers::from_slice(alloc, &[fails])?);
-    match read_input(alloc, &mut input, usize::from(limit)) {
+    match read_input(alloc, false, &mut input, usize::from(limit)) {
         Ok(program) => write!(told, "{}", program.functions.len()),
         Err(error) => write!(told, "{error}"),
     }

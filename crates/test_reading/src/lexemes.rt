@@ -5,8 +5,8 @@ use base_ids::metadata::NodeId;
 use read_lexer::fault::LexError;
 use read_lexer::lexer::tokens;
 use read_token::lexeme::Lexeme::{
-    Block, Close, Colon, Comma, Equals, Expression, InlineLocation, Integer, Node, Open, Other,
-    Register, Slot,
+    Block, Close, Colon, Comma, Constant, Equals, Expression, Fixed, InlineLocation, Integer,
+    Minus, Node, Open, Other, Plus, Register, Slot,
 };
 use read_token::lexeme::Number::{Fits, Large, Wide};
 use read_token::lexeme::{BEYOND, Lexeme, RegisterName};
@@ -47,7 +47,11 @@ fn reads_tokens(rt: HostRuntime) -> Result<(), Fail> {
         ("%stack.0.a.addr", Slot(SlotId(0))),
         ("%stack.0.", Other),
         ("%stack.x", Other),
-        ("%fixed-stack.0", Other),
+        ("%fixed-stack.0", Fixed(0)),
+        ("%fixed-stack.0.a", Other),
+        ("%const.12", Constant(12)),
+        ("%const.1073741824", Constant(BEYOND)),
+        ("%const.x", Other),
         ("%bb.1073741823", Block(BlockId(1073741823))),
         ("%bb.3.while.body", Block(BlockId(3))),
         ("!1073741823", Node(NodeId(1073741823))),
@@ -71,7 +75,9 @@ fn reads_tokens(rt: HostRuntime) -> Result<(), Fail> {
         ("(", Open),
         (")", Close),
         (":", Colon),
-        ("-", Other),
+        ("+", Plus),
+        ("-", Minus),
+        ("|", Other),
     ];
     for (text, expected) in lexemes {
         assert_eq!(rt; only_lexeme(rt.alloc(), text)?, expected, "{text}");

@@ -78,7 +78,7 @@ fn refusal(alloc: Global, row: &Row, count: usize) -> Result<Option<Refusal>, Fa
     if bytes.len() >= 1 << 31 {
         return Err(Fail::from("a text of this size"));
     }
-    match read_program(alloc, bytes) {
+    match read_program(alloc, false, bytes) {
         Ok(_) => Ok(None),
         Err(ParseError::Refused(refusal)) => Ok(Some(refusal)),
         Err(ParseError::Memory) => Err(Fail::from("memory ran out")),

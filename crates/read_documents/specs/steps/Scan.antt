@@ -3,7 +3,7 @@ use Rattle.std.specs.Prelude.{ℕ, Bool, true, false, not, ◌&&◌, ◌||◌, �
 use Rattle.std.specs.Option.{option_map_or}
 use Rattle.read_lexer.specs.declared.line.Line.{Line}
 use Rattle.read_documents.specs.declared.key.Key.{Key}
-use Rattle.read_documents.specs.declared.key.Key.TheVariants.{Name, Stack, FixedStack, DebugValueSubstitutions, Body, Other}
+use Rattle.read_documents.specs.declared.key.Key.TheVariants.{Name, Stack, FixedStack, DebugValueSubstitutions, Constants, ReturnsTwice, Body, Other}
 use Rattle.read_documents.specs.declared.open_function.OpenFunction.{OpenFunction}
 use Rattle.read_documents.specs.declared.scan.Scan.{Scan}
 use Rattle.read_documents.specs.declared.parts.FunctionDocument.{FunctionDocument}
@@ -13,15 +13,29 @@ use Rattle.read_documents.specs.Key.{is_close, opens_block, opens_function, is_p
 -- ---- a function that isn't closed yet
 
 -- a function right after the line that opens it
-abbrev pub just_opened : ℕ → OpenFunction
-just_opened opened = record { opened = opened; key = Other; has_body = false; name = []; stack = []; fixed = []; substitutions = []; body = [] }
+abbrev pub just_opened : (linked : Bool) → ℕ → OpenFunction
+just_opened linked opened = record {
+  opened = opened;
+  linked = linked;
+  key = Other;
+  has_body = false;
+  name = [];
+  stack = [];
+  fixed = [];
+  substitutions = [];
+  constants = [];
+  twice = [];
+  body = [];
+}
 
--- whether a line with this key came already, for a key that is kept
+-- whether a line with this key came already, for a key that may come once
 abbrev pub has : OpenFunction → Key → Bool
 has f Name = not (length f.name == 0)
 has f Stack = not (length f.stack == 0)
 has f FixedStack = not (length f.fixed == 0)
 has f DebugValueSubstitutions = not (length f.substitutions == 0)
+has f Constants = f.linked && not (length f.constants == 0)
+has f ReturnsTwice = f.linked && not (length f.twice == 0)
 has f Body = f.has_body
 has f Other = false
 
@@ -37,6 +51,8 @@ with_line f Name line = record f { name = f.name ++ line ∷ [] }
 with_line f Stack line = record f { stack = f.stack ++ line ∷ [] }
 with_line f FixedStack line = record f { fixed = f.fixed ++ line ∷ [] }
 with_line f DebugValueSubstitutions line = record f { substitutions = f.substitutions ++ line ∷ [] }
+with_line f Constants line = record f { constants = f.constants ++ line ∷ [] }
+with_line f ReturnsTwice line = record f { twice = f.twice ++ line ∷ [] }
 with_line f Body line = record f { body = f.body ++ line ∷ [] }
 with_line f Other line = f
 
@@ -63,10 +79,13 @@ abbrev pub closed_at : OpenFunction → ℕ → FunctionDocument
 closed_at f closed = record {
   opened = f.opened;
   closed = closed;
+  linked = f.linked;
   name = f.name;
   stack = f.stack;
   fixed = f.fixed;
   substitutions = f.substitutions;
+  constants = f.constants;
+  twice = f.twice;
   body =
       f.body;
 }
@@ -74,8 +93,8 @@ closed_at f closed = record {
 -- ---- the scan
 
 -- the state before the first line
-abbrev pub start : Scan
-start = record { had_block = false; in_block = false; function = None; meta = []; functions = [] }
+abbrev pub start : (linked : Bool) → Scan
+start linked = record { linked = linked; had_block = false; in_block = false; function = None; meta = []; functions = [] }
 
 -- the line number of a fault outside documents, if this line is one
 abbrev pub outside_fault : Scan → Line → Option ℕ
@@ -108,7 +127,7 @@ abbrev pub outside_step : Scan → Line → Scan
 outside_step s line =
     if is_passed line.text then s
     else (if opens_block line.text then record s { had_block = true; in_block = true }
-    else (if opens_function line.text then record s { function = Some (just_opened line.number) }
+    else (if opens_function line.text then record s { function = Some (just_opened s.linked line.number) }
     else s))
 
 -- the state after a line of a function

@@ -5,7 +5,7 @@ use Rattle.read_documents.proofs.Scanned.{scan-lines_of}
 use Rattle.read_documents.proofs.frame.documents.Goals as goal
 
 pub loop-rest-init : goal.loop-rest-init
-loop-rest-init c = record { counted = omega arith; read = rw c.new-scan.ensures (scan-lines_of c.args.text.now) }
+loop-rest-init c = record { counted = omega arith; read = rw c.new-scan.ensures (scan-lines_of c.args.linked c.args.text.now) }
 
 pub returns-then-is_some : goal.returns-then-is_some
 returns-then-is_some c =

@@ -7,7 +7,7 @@ invariant-loop-taken g l = record {
   steady : g.S.Source.faults l.input ≡ g.S.Source.faults l.initial.input;
   within : l.taken ≤ l.limit + 1;
   lines : l.reader.program.lines ≤ l.taken;
-  front : IsFront (g.S.Source.left l.initial.input) (g.S.Source.left l.input) l.reader l.taken;
+  front : IsFront l.linked (g.S.Source.left l.initial.input) (g.S.Source.left l.input) l.reader l.taken;
 }
 
 abbrev pub decreases-loop-taken : goal.decreases-loop-taken

@@ -1,4 +1,4 @@
-use Rattle.std.proofs.Common.{List, [], Result, Ok, Err, subst, rules}
+use Rattle.std.proofs.Common.{false, List, [], Result, Ok, Err, subst, rules}
 use Rattle.read_documents.specs.declared.parts.FunctionDocument.{FunctionDocument}
 use Rattle.read_program.specs.declared.closing.Parsed.{Parsed}
 use Rattle.read_program.specs.declared.error.ParseError.{ParseError}
@@ -9,7 +9,18 @@ use Rattle.read_program.proofs.program.read_functions.Goals as goal
 
 -- a document that stands for none
 none : FunctionDocument
-none = record { opened = 0; closed = 0; name = []; stack = []; fixed = []; substitutions = []; body = [] }
+none = record {
+  opened = 0;
+  closed = 0;
+  linked = false;
+  name = [];
+  stack = [];
+  fixed = [];
+  substitutions = [];
+  constants = [];
+  twice = [];
+  body = [];
+}
 
 pub returns-then-len-ge-MAX_FUNCTIONS : goal.returns-then-len-ge-MAX_FUNCTIONS
 returns-then-len-ge-MAX_FUNCTIONS c =

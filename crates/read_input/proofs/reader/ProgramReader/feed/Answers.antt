@@ -18,18 +18,19 @@ loop-rest-preserved c =
     let held : ProgramReader = record l.self { line = l.self.line ++ take end rest } in
     record {
       counted = omega (arith, l.invariant.counted, c.in_ok-end_line.ensures.lines, c.in-Some.ensures.within, left);
-      reading = λ front reading. passed-more c.args.self.now l.self c.args.bytes.now rest l.invariant.reading front reading held c.end_line.new.self end
-          (sym c.in-Some.is ∙ c.line_feed.ensures.place) refl refl c.in_ok-end_line.ensures.reading;
+      reading = λ linked front reading. passed-more c.args.self.now l.self c.args.bytes.now rest l.invariant.reading linked front reading held
+          c.end_line.new.self end (sym c.in-Some.is ∙ c.line_feed.ensures.place) refl refl (c.in_ok-end_line.ensures.reading linked);
     }
 
 pub returns-in_default-clause-reading : goal.returns-in_default-clause-reading
 returns-in_default-clause-reading c =
     let l = c.loop-rest in
     let held : ProgramReader = record l.self { line = c.extend_from_slice.new.self } in
-    on_ok_weaker c.extend_from_slice.result (λ more front reading. passed-open c.args.self.now l.self c.args.bytes.now l.rest.now l.invariant.reading front
+    on_ok_weaker c.extend_from_slice.result (λ more linked front reading. passed-open c.args.self.now l.self c.args.bytes.now l.rest.now l.invariant.reading
+    linked front
     reading held (sym c.in_default.is ∙ c.line_feed.ensures.place) refl more) c.extend_from_slice.ensures.ok
 
 pub returns-clause-reading : goal.returns-clause-reading
-returns-clause-reading c = λ front reading.
+returns-clause-reading c = λ linked front reading.
     let l = c.loop-rest in
-    passed-refused c.args.self.now l.self c.args.bytes.now l.rest.now l.invariant.reading front reading (search rules)
+    passed-refused c.args.self.now l.self c.args.bytes.now l.rest.now l.invariant.reading linked front reading (search rules)
