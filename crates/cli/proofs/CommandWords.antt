@@ -1,5 +1,5 @@
 -- Words tell their command.
-use Rattle.std.proofs.Common.{◌≡◌, ◌↔◌, ℕ, ◌+◌, ◌-◌, ◌*◌, ◌≤◌, true, false, List, [], ◌∷◌}
+use Rattle.std.proofs.Common.{◌≡◌, ◌↔◌, ℕ, ◌+◌, ◌-◌, ◌*◌, ◌≤◌, Bool, true, false, List, [], ◌∷◌}
 use Rattle.std.proofs.Common.{length, get_or, take, drop, Option, Some, None, sym, ap, ◌∙◌, subst, refl, arith}
 use Rattle.std.proofs.Math.Seq.{take-length}
 use Rattle.std.proofs.lemmas.List.{drop_more, length-drop}
@@ -10,7 +10,7 @@ use Rattle.cli_numbers.specs.declared.generation.Generation.{Generation}
 use Rattle.cli_numbers.specs.Numbers.{IsGeneration}
 use Rattle.cli.specs.declared.options.Options.{Options}
 use Rattle.cli.specs.declared.option.CommandOption.{CommandOption}
-use Rattle.cli.specs.declared.option.CommandOption.TheVariants.{Passes, Reserve, Arguments, Answers, Frame, Inline}
+use Rattle.cli.specs.declared.option.CommandOption.TheVariants.{Passes, Reserve, Arguments, Answers, Frame, Inline, Linked, Symbols}
 use Rattle.cli.specs.Options.{none_given, IsWith, GivesOption, GiveOptions}
 use Rattle.cli.proofs.OptionWords.{the_option}
 use Rattle.cli.specs.declared.command.Command.{Command}
@@ -19,8 +19,9 @@ use Rattle.cli.specs.declared.command.PassPipeline.{PassPipeline}
 use Rattle.cli.specs.declared.command.CompilePlan.{CompilePlan}
 use Rattle.cli.specs.declared.command.RunPlan.{RunPlan}
 use Rattle.cli.specs.declared.command.TestPlan.{TestPlan}
-use Rattle.cli.specs.Command.{MAX_STEPS, IsPlanOf, GivesPlan, IsCompileOf, GivesCompile, IsRunPlanOf, GivesSteps, GivesRun, GivesTestOf, GivesTest}
-use Rattle.cli.specs.Command.{IsWithin, IsCommand, AreWithin}
+use Rattle.cli.specs.Command.{MAX_STEPS, IsPlanOf, GivesPlan, IsPlainPlan, GivesPlainPlan, IsCompileOf}
+use Rattle.cli.specs.Command.{GivesCompile, IsRunPlanOf, GivesSteps, GivesRun, GivesTestOf, GivesTest}
+use Rattle.cli.specs.Command.{IsWithin, IsCommand, AreWithin, strip_words, has_idle_symbols}
 
 -- ---- one plan for words
 
@@ -34,6 +35,8 @@ one_next given (Arguments values) a b ha hb = ha.1 ∙ sym hb.1
 one_next given (Answers values) a b ha hb = ha.1 ∙ sym hb.1
 one_next given Frame a b ha hb = ha.1 ∙ sym hb.1
 one_next given Inline a b ha hb = ha.1 ∙ sym hb.1
+one_next given Linked a b ha hb = ha.1 ∙ sym hb.1
+one_next given (Symbols pairs) a b ha hb = ha.1 ∙ sym hb.1
 
 one_more : (given : Options) (word : List ℕ) (a b : Options) → GivesOption given word a → GivesOption given word b → a ≡ b
 one_more given word a b ha hb =
@@ -51,7 +54,8 @@ plan_by : (given : Options) (p q : PassPipeline) → IsPlanOf given p → IsPlan
 plan_by given p q hp hq =
     let passes : p.passes ≡ q.passes = hp.passes ∙ sym hq.passes in
     let reserve : p.reserve ≡ q.reserve = hp.reserve ∙ sym hq.reserve in
-    λ i. record { passes = passes i; reserve = reserve i }
+    let linked : p.linked ≡ q.linked = hp.linked ∙ sym hq.linked in
+    λ i. record { passes = passes i; reserve = reserve i; linked = linked i }
 
 pub one_plan : (words : List (List ℕ)) (p q : PassPipeline) → GivesPlan words p → GivesPlan words q → p ≡ q
 one_plan words p q hp hq =
@@ -62,9 +66,10 @@ compile_by : (given : Options) (c d : CompilePlan) → IsCompileOf given c → I
 compile_by given c d hc hd =
     let passes : c.plan.passes ≡ d.plan.passes = hc.passes ∙ sym hd.passes in
     let reserve : c.plan.reserve ≡ d.plan.reserve = hc.reserve ∙ sym hd.reserve in
+    let linked : c.plan.linked ≡ d.plan.linked = hc.linked ∙ sym hd.linked in
     let frame : c.frame ≡ d.frame = hc.frame ∙ sym hd.frame in
     let inline : c.inline ≡ d.inline = hc.inline ∙ sym hd.inline in
-    λ i. record { plan = record { passes = passes i; reserve = reserve i }; frame = frame i; inline = inline i }
+    λ i. record { plan = record { passes = passes i; reserve = reserve i; linked = linked i }; frame = frame i; inline = inline i }
 
 one_compile : (words : List (List ℕ)) (c d : CompilePlan) → GivesCompile words c → GivesCompile words d → c ≡ d
 one_compile words c d hc hd =
@@ -77,14 +82,17 @@ run_by name count given r s hr hs =
     let steps : r.steps ≡ s.steps = hr.steps ∙ sym hs.steps in
     let passes : r.plan.passes ≡ s.plan.passes = hr.passes ∙ sym hs.passes in
     let reserve : r.plan.reserve ≡ s.plan.reserve = hr.reserve ∙ sym hs.reserve in
+    let linked : r.plan.linked ≡ s.plan.linked = hr.linked ∙ sym hs.linked in
     let arguments : r.arguments ≡ s.arguments = hr.arguments ∙ sym hs.arguments in
     let answers : r.answers ≡ s.answers = hr.answers ∙ sym hs.answers in
+    let symbols : r.symbols ≡ s.symbols = hr.symbols ∙ sym hs.symbols in
     λ i. record {
       name = named i;
       steps = steps i;
-      plan = record { passes = passes i; reserve = reserve i };
+      plan = record { passes = passes i; reserve = reserve i; linked = linked i };
       arguments = arguments i;
       answers = answers i;
+      symbols = symbols i;
     }
 
 pub one_number : (m n : ℕ) → m ≤ MAX_STEPS → n ≤ MAX_STEPS → decimal m ≡ decimal n → m ≡ n
@@ -113,7 +121,7 @@ one_function number blocks g h hg hh =
 one_test_of : (number blocks : List ℕ) (words : List (List ℕ)) (t u : TestPlan) → GivesTestOf number blocks words t → GivesTestOf number blocks words u → t ≡ u
 one_test_of number blocks words t u ht hu =
     let function : t.function ≡ u.function = one_function number blocks t.function u.function ht.function hu.function in
-    let plan : t.plan ≡ u.plan = one_plan words t.plan u.plan ht.plan hu.plan in
+    let plan : t.plan ≡ u.plan = one_plan words t.plan u.plan ht.plan.0 hu.plan.0 in
     λ i. record { function = function i; plan = plan i }
 
 one_test : (words : List (List ℕ)) (t u : TestPlan) → GivesTest words t → GivesTest words u → t ≡ u
@@ -142,6 +150,12 @@ one_generation words g h within also eg eh =
     one_number g.blocks h.blocks (omega (arith, within.few)) (omega (arith, also.few)) second.0 in
     λ i. record { number = number i; blocks = blocks i }
 
+one_strip : (words : List (List ℕ)) (l m : Bool) → words ≡ strip_words l → words ≡ strip_words m → l ≡ m
+one_strip words true true a b = refl
+one_strip words false false a b = refl
+one_strip words true false a b = let both : codes "--linked" ∷ [] ≡ [] = sym a ∙ b in absurd cc
+one_strip words false true a b = let both : codes "--linked" ∷ [] ≡ [] = sym b ∙ a in absurd cc
+
 -- the sign of the name of a command
 abbrev pub sign_of : Command → ℕ
 sign_of (Compile p) = 321
@@ -149,7 +163,7 @@ sign_of (Listing p) = 318
 sign_of (Report p) = 316
 sign_of (Object p) = 307
 sign_of (Run r) = 348
-sign_of Strip = 347
+sign_of (Strip l) = 347
 sign_of (Gen g) = 305
 sign_of (SelfTest t) = 317
 
@@ -159,7 +173,7 @@ named_by name words (Listing p) is = ap sign is.0
 named_by name words (Report p) is = ap sign is.0
 named_by name words (Object p) is = ap sign is.0
 named_by name words (Run r) is = ap sign is.0
-named_by name words Strip is = ap sign is.0
+named_by name words (Strip l) is = ap sign is.0
 named_by name words (Gen g) is = ap sign is.0
 named_by name words (SelfTest t) is = ap sign is.0
 
@@ -172,7 +186,7 @@ by_name name words (Compile p) (Listing q) e ha hb = absurd (omega (arith, e))
 by_name name words (Compile p) (Report q) e ha hb = absurd (omega (arith, e))
 by_name name words (Compile p) (Object q) e ha hb = absurd (omega (arith, e))
 by_name name words (Compile p) (Run s) e ha hb = absurd (omega (arith, e))
-by_name name words (Compile p) Strip e ha hb = absurd (omega (arith, e))
+by_name name words (Compile p) (Strip m) e ha hb = absurd (omega (arith, e))
 by_name name words (Compile p) (Gen h) e ha hb = absurd (omega (arith, e))
 by_name name words (Compile p) (SelfTest u) e ha hb = absurd (omega (arith, e))
 by_name name words (Listing p) (Compile q) e ha hb = absurd (omega (arith, e))
@@ -180,7 +194,7 @@ by_name name words (Listing p) (Listing q) e ha hb = ap (λ (x : PassPipeline). 
 by_name name words (Listing p) (Report q) e ha hb = absurd (omega (arith, e))
 by_name name words (Listing p) (Object q) e ha hb = absurd (omega (arith, e))
 by_name name words (Listing p) (Run s) e ha hb = absurd (omega (arith, e))
-by_name name words (Listing p) Strip e ha hb = absurd (omega (arith, e))
+by_name name words (Listing p) (Strip m) e ha hb = absurd (omega (arith, e))
 by_name name words (Listing p) (Gen h) e ha hb = absurd (omega (arith, e))
 by_name name words (Listing p) (SelfTest u) e ha hb = absurd (omega (arith, e))
 by_name name words (Report p) (Compile q) e ha hb = absurd (omega (arith, e))
@@ -188,15 +202,15 @@ by_name name words (Report p) (Listing q) e ha hb = absurd (omega (arith, e))
 by_name name words (Report p) (Report q) e ha hb = ap (λ (x : PassPipeline). Report x) (one_plan words p q ha.1 hb.1)
 by_name name words (Report p) (Object q) e ha hb = absurd (omega (arith, e))
 by_name name words (Report p) (Run s) e ha hb = absurd (omega (arith, e))
-by_name name words (Report p) Strip e ha hb = absurd (omega (arith, e))
+by_name name words (Report p) (Strip m) e ha hb = absurd (omega (arith, e))
 by_name name words (Report p) (Gen h) e ha hb = absurd (omega (arith, e))
 by_name name words (Report p) (SelfTest u) e ha hb = absurd (omega (arith, e))
 by_name name words (Object p) (Compile q) e ha hb = absurd (omega (arith, e))
 by_name name words (Object p) (Listing q) e ha hb = absurd (omega (arith, e))
 by_name name words (Object p) (Report q) e ha hb = absurd (omega (arith, e))
-by_name name words (Object p) (Object q) e ha hb = ap (λ (x : PassPipeline). Object x) (one_plan words p q ha.1 hb.1)
+by_name name words (Object p) (Object q) e ha hb = ap (λ (x : PassPipeline). Object x) (one_plan words p q ha.1.0 hb.1.0)
 by_name name words (Object p) (Run s) e ha hb = absurd (omega (arith, e))
-by_name name words (Object p) Strip e ha hb = absurd (omega (arith, e))
+by_name name words (Object p) (Strip m) e ha hb = absurd (omega (arith, e))
 by_name name words (Object p) (Gen h) e ha hb = absurd (omega (arith, e))
 by_name name words (Object p) (SelfTest u) e ha hb = absurd (omega (arith, e))
 by_name name words (Run r) (Compile q) e ha hb = absurd (omega (arith, e))
@@ -204,23 +218,23 @@ by_name name words (Run r) (Listing q) e ha hb = absurd (omega (arith, e))
 by_name name words (Run r) (Report q) e ha hb = absurd (omega (arith, e))
 by_name name words (Run r) (Object q) e ha hb = absurd (omega (arith, e))
 by_name name words (Run r) (Run s) e ha hb = ap (λ (x : RunPlan). Run x) (one_run words r s ha.1 hb.1)
-by_name name words (Run r) Strip e ha hb = absurd (omega (arith, e))
+by_name name words (Run r) (Strip m) e ha hb = absurd (omega (arith, e))
 by_name name words (Run r) (Gen h) e ha hb = absurd (omega (arith, e))
 by_name name words (Run r) (SelfTest u) e ha hb = absurd (omega (arith, e))
-by_name name words Strip (Compile q) e ha hb = absurd (omega (arith, e))
-by_name name words Strip (Listing q) e ha hb = absurd (omega (arith, e))
-by_name name words Strip (Report q) e ha hb = absurd (omega (arith, e))
-by_name name words Strip (Object q) e ha hb = absurd (omega (arith, e))
-by_name name words Strip (Run s) e ha hb = absurd (omega (arith, e))
-by_name name words Strip Strip e ha hb = refl
-by_name name words Strip (Gen h) e ha hb = absurd (omega (arith, e))
-by_name name words Strip (SelfTest u) e ha hb = absurd (omega (arith, e))
+by_name name words (Strip l) (Compile q) e ha hb = absurd (omega (arith, e))
+by_name name words (Strip l) (Listing q) e ha hb = absurd (omega (arith, e))
+by_name name words (Strip l) (Report q) e ha hb = absurd (omega (arith, e))
+by_name name words (Strip l) (Object q) e ha hb = absurd (omega (arith, e))
+by_name name words (Strip l) (Run s) e ha hb = absurd (omega (arith, e))
+by_name name words (Strip l) (Strip m) e ha hb = ap (λ (x : Bool). Strip x) (one_strip words l m ha.1 hb.1)
+by_name name words (Strip l) (Gen h) e ha hb = absurd (omega (arith, e))
+by_name name words (Strip l) (SelfTest u) e ha hb = absurd (omega (arith, e))
 by_name name words (Gen g) (Compile q) e ha hb = absurd (omega (arith, e))
 by_name name words (Gen g) (Listing q) e ha hb = absurd (omega (arith, e))
 by_name name words (Gen g) (Report q) e ha hb = absurd (omega (arith, e))
 by_name name words (Gen g) (Object q) e ha hb = absurd (omega (arith, e))
 by_name name words (Gen g) (Run s) e ha hb = absurd (omega (arith, e))
-by_name name words (Gen g) Strip e ha hb = absurd (omega (arith, e))
+by_name name words (Gen g) (Strip m) e ha hb = absurd (omega (arith, e))
 by_name name words (Gen g) (Gen h) e ha hb = ap (λ (x : Generation). Gen x) (one_generation words g h ha.2 hb.2 ha.1 hb.1)
 by_name name words (Gen g) (SelfTest u) e ha hb = absurd (omega (arith, e))
 by_name name words (SelfTest t) (Compile q) e ha hb = absurd (omega (arith, e))
@@ -228,7 +242,7 @@ by_name name words (SelfTest t) (Listing q) e ha hb = absurd (omega (arith, e))
 by_name name words (SelfTest t) (Report q) e ha hb = absurd (omega (arith, e))
 by_name name words (SelfTest t) (Object q) e ha hb = absurd (omega (arith, e))
 by_name name words (SelfTest t) (Run s) e ha hb = absurd (omega (arith, e))
-by_name name words (SelfTest t) Strip e ha hb = absurd (omega (arith, e))
+by_name name words (SelfTest t) (Strip m) e ha hb = absurd (omega (arith, e))
 by_name name words (SelfTest t) (Gen h) e ha hb = absurd (omega (arith, e))
 by_name name words (SelfTest t) (SelfTest u) e ha hb = ap (λ (x : TestPlan). SelfTest x) (one_test words t u ha.1 hb.1)
 
@@ -246,7 +260,7 @@ no_compile name words is none (Listing p) h = let e : 321 ≡ 318 = sym (ap sign
 no_compile name words is none (Report p) h = let e : 321 ≡ 316 = sym (ap sign is) ∙ ap sign h.0 in omega (arith, e)
 no_compile name words is none (Object p) h = let e : 321 ≡ 307 = sym (ap sign is) ∙ ap sign h.0 in omega (arith, e)
 no_compile name words is none (Run r) h = let e : 321 ≡ 348 = sym (ap sign is) ∙ ap sign h.0 in omega (arith, e)
-no_compile name words is none Strip h = let e : 321 ≡ 347 = sym (ap sign is) ∙ ap sign h.0 in omega (arith, e)
+no_compile name words is none (Strip l) h = let e : 321 ≡ 347 = sym (ap sign is) ∙ ap sign h.0 in omega (arith, e)
 no_compile name words is none (Gen g) h = let e : 321 ≡ 305 = sym (ap sign is) ∙ ap sign h.0 in omega (arith, e)
 no_compile name words is none (SelfTest t) h = let e : 321 ≡ 317 = sym (ap sign is) ∙ ap sign h.0 in omega (arith, e)
 
@@ -257,7 +271,7 @@ no_listing name words is none (Listing p) h = none p h.1
 no_listing name words is none (Report p) h = let e : 318 ≡ 316 = sym (ap sign is) ∙ ap sign h.0 in omega (arith, e)
 no_listing name words is none (Object p) h = let e : 318 ≡ 307 = sym (ap sign is) ∙ ap sign h.0 in omega (arith, e)
 no_listing name words is none (Run r) h = let e : 318 ≡ 348 = sym (ap sign is) ∙ ap sign h.0 in omega (arith, e)
-no_listing name words is none Strip h = let e : 318 ≡ 347 = sym (ap sign is) ∙ ap sign h.0 in omega (arith, e)
+no_listing name words is none (Strip l) h = let e : 318 ≡ 347 = sym (ap sign is) ∙ ap sign h.0 in omega (arith, e)
 no_listing name words is none (Gen g) h = let e : 318 ≡ 305 = sym (ap sign is) ∙ ap sign h.0 in omega (arith, e)
 no_listing name words is none (SelfTest t) h = let e : 318 ≡ 317 = sym (ap sign is) ∙ ap sign h.0 in omega (arith, e)
 
@@ -268,18 +282,18 @@ no_report name words is none (Listing p) h = let e : 316 ≡ 318 = sym (ap sign 
 no_report name words is none (Report p) h = none p h.1
 no_report name words is none (Object p) h = let e : 316 ≡ 307 = sym (ap sign is) ∙ ap sign h.0 in omega (arith, e)
 no_report name words is none (Run r) h = let e : 316 ≡ 348 = sym (ap sign is) ∙ ap sign h.0 in omega (arith, e)
-no_report name words is none Strip h = let e : 316 ≡ 347 = sym (ap sign is) ∙ ap sign h.0 in omega (arith, e)
+no_report name words is none (Strip l) h = let e : 316 ≡ 347 = sym (ap sign is) ∙ ap sign h.0 in omega (arith, e)
 no_report name words is none (Gen g) h = let e : 316 ≡ 305 = sym (ap sign is) ∙ ap sign h.0 in omega (arith, e)
 no_report name words is none (SelfTest t) h = let e : 316 ≡ 317 = sym (ap sign is) ∙ ap sign h.0 in omega (arith, e)
 
-pub no_object : (name : List ℕ) (words : List (List ℕ)) → name ≡ codes "object" → ((p : PassPipeline) → GivesPlan words p → ⊥) →
+pub no_object : (name : List ℕ) (words : List (List ℕ)) → name ≡ codes "object" → ((p : PassPipeline) → GivesPlainPlan words p → ⊥) →
     (c : Command) → IsCommand (name ∷ words) c → ⊥
 no_object name words is none (Compile p) h = let e : 307 ≡ 321 = sym (ap sign is) ∙ ap sign h.0 in omega (arith, e)
 no_object name words is none (Listing p) h = let e : 307 ≡ 318 = sym (ap sign is) ∙ ap sign h.0 in omega (arith, e)
 no_object name words is none (Report p) h = let e : 307 ≡ 316 = sym (ap sign is) ∙ ap sign h.0 in omega (arith, e)
 no_object name words is none (Object p) h = none p h.1
 no_object name words is none (Run r) h = let e : 307 ≡ 348 = sym (ap sign is) ∙ ap sign h.0 in omega (arith, e)
-no_object name words is none Strip h = let e : 307 ≡ 347 = sym (ap sign is) ∙ ap sign h.0 in omega (arith, e)
+no_object name words is none (Strip l) h = let e : 307 ≡ 347 = sym (ap sign is) ∙ ap sign h.0 in omega (arith, e)
 no_object name words is none (Gen g) h = let e : 307 ≡ 305 = sym (ap sign is) ∙ ap sign h.0 in omega (arith, e)
 no_object name words is none (SelfTest t) h = let e : 307 ≡ 317 = sym (ap sign is) ∙ ap sign h.0 in omega (arith, e)
 
@@ -290,7 +304,7 @@ no_run name words is none (Listing p) h = let e : 348 ≡ 318 = sym (ap sign is)
 no_run name words is none (Report p) h = let e : 348 ≡ 316 = sym (ap sign is) ∙ ap sign h.0 in omega (arith, e)
 no_run name words is none (Object p) h = let e : 348 ≡ 307 = sym (ap sign is) ∙ ap sign h.0 in omega (arith, e)
 no_run name words is none (Run r) h = none r h.1
-no_run name words is none Strip h = let e : 348 ≡ 347 = sym (ap sign is) ∙ ap sign h.0 in omega (arith, e)
+no_run name words is none (Strip l) h = let e : 348 ≡ 347 = sym (ap sign is) ∙ ap sign h.0 in omega (arith, e)
 no_run name words is none (Gen g) h = let e : 348 ≡ 305 = sym (ap sign is) ∙ ap sign h.0 in omega (arith, e)
 no_run name words is none (SelfTest t) h = let e : 348 ≡ 317 = sym (ap sign is) ∙ ap sign h.0 in omega (arith, e)
 
@@ -301,9 +315,20 @@ no_test name words is none (Listing p) h = let e : 317 ≡ 318 = sym (ap sign is
 no_test name words is none (Report p) h = let e : 317 ≡ 316 = sym (ap sign is) ∙ ap sign h.0 in omega (arith, e)
 no_test name words is none (Object p) h = let e : 317 ≡ 307 = sym (ap sign is) ∙ ap sign h.0 in omega (arith, e)
 no_test name words is none (Run r) h = let e : 317 ≡ 348 = sym (ap sign is) ∙ ap sign h.0 in omega (arith, e)
-no_test name words is none Strip h = let e : 317 ≡ 347 = sym (ap sign is) ∙ ap sign h.0 in omega (arith, e)
+no_test name words is none (Strip l) h = let e : 317 ≡ 347 = sym (ap sign is) ∙ ap sign h.0 in omega (arith, e)
 no_test name words is none (Gen g) h = let e : 317 ≡ 305 = sym (ap sign is) ∙ ap sign h.0 in omega (arith, e)
 no_test name words is none (SelfTest t) h = none t h.1
+
+pub no_strip : (name : List ℕ) (words : List (List ℕ)) → name ≡ codes "strip" → ((l : Bool) → words ≡ strip_words l → ⊥) →
+    (c : Command) → IsCommand (name ∷ words) c → ⊥
+no_strip name words is none (Compile p) h = let e : 347 ≡ 321 = sym (ap sign is) ∙ ap sign h.0 in omega (arith, e)
+no_strip name words is none (Listing p) h = let e : 347 ≡ 318 = sym (ap sign is) ∙ ap sign h.0 in omega (arith, e)
+no_strip name words is none (Report p) h = let e : 347 ≡ 316 = sym (ap sign is) ∙ ap sign h.0 in omega (arith, e)
+no_strip name words is none (Object p) h = let e : 347 ≡ 307 = sym (ap sign is) ∙ ap sign h.0 in omega (arith, e)
+no_strip name words is none (Run r) h = let e : 347 ≡ 348 = sym (ap sign is) ∙ ap sign h.0 in omega (arith, e)
+no_strip name words is none (Strip l) h = none l h.1
+no_strip name words is none (Gen g) h = let e : 347 ≡ 305 = sym (ap sign is) ∙ ap sign h.0 in omega (arith, e)
+no_strip name words is none (SelfTest t) h = let e : 347 ≡ 317 = sym (ap sign is) ∙ ap sign h.0 in omega (arith, e)
 
 -- ---- what is found
 
@@ -329,6 +354,15 @@ the_made Is words o given made some gives is a = (
       (is a).1 (subst (λ (g : Options). Is g a) same h.2)),
 )
 
+-- a plan without `--linked` is what the words ask for
+pub the_plain : (words : List (List ℕ)) (o : Option PassPipeline) (plan : PassPipeline) (made : Option PassPipeline) → o ≡ Some plan →
+    ((p : PassPipeline) → (o ≡ Some p) ↔ GivesPlan words p) → ((q : PassPipeline) → (made ≡ Some q) ↔ IsPlainPlan plan q) → (q : PassPipeline) →
+    (made ≡ Some q) ↔ GivesPlainPlan words q
+the_plain words o plan made some gives is q = (
+  λ e. (let plain = (is q).0 e in ((gives q).0 (some ∙ ap (λ (p : PassPipeline). Some p) plain.0), plain.1)),
+  λ h. (is q).1 (one_of plan q (sym some ∙ (gives q).1 h.0), h.1),
+)
+
 -- words with `--frame` ask for no run
 pub no_steps : (name word : List ℕ) (words : List (List ℕ)) (given : Options) → GiveOptions none_given words given → given.frame ≡ true → (run : RunPlan) →
     GivesSteps name word words run → ⊥
@@ -342,6 +376,13 @@ pub no_steps_inline : (name word : List ℕ) (words : List (List ℕ)) (given : 
 no_steps_inline name word words given give inlined run h =
     let one : h.given ≡ given = one_given words none_given h.given given h.give give in
     let none : given.inline ≡ false = ap (λ (g : Options). g.inline) (sym one) ∙ h.is.no_inline in cc
+
+-- nor do words with addresses of symbols for the language that isn't linked
+pub no_steps_idle : (name word : List ℕ) (words : List (List ℕ)) (given : Options) → GiveOptions none_given words given →
+    has_idle_symbols given ≡ true → (run : RunPlan) → GivesSteps name word words run → ⊥
+no_steps_idle name word words given give idle run h =
+    let one : h.given ≡ given = one_given words none_given h.given given h.give give in
+    let none : has_idle_symbols given ≡ false = ap has_idle_symbols (sym one) ∙ h.is.no_idle_symbols in cc
 
 -- words whose options ask for these runs ask for them too
 pub the_steps : (name named word : List ℕ) (words : List (List ℕ)) (count : ℕ) (given : Options) (found : RunPlan) → named ≡ name →
@@ -387,7 +428,7 @@ within (name ∷ words) (Listing p) is = tt
 within (name ∷ words) (Report p) is = tt
 within (name ∷ words) (Object p) is = tt
 within (name ∷ words) (Run r) is = tt
-within (name ∷ words) Strip is = tt
+within (name ∷ words) (Strip l) is = tt
 within (name ∷ words) (Gen g) is = is.2
 within (name ∷ words) (SelfTest t) is = test_within words t is.1
 

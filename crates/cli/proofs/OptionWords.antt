@@ -10,9 +10,12 @@ use Rattle.pass_list.proofs.Texts.{one_list}
 use Rattle.rv64_instr.specs.Reserve.{RESERVABLE}
 use Rattle.cli_numbers.specs.Reserve.{register_name, IsReserveText}
 use Rattle.cli_numbers.proofs.Names.{names}
+use Rattle.rv64_instr.specs.declared.symbol.Symbol.{Symbol}
+use Rattle.cli_numbers.specs.Symbols.{pair_text, CanBeGiven, IsAddressText}
+use Rattle.cli_numbers.proofs.SymbolTexts.{pairs_spelled}
 use Rattle.cli.specs.declared.option.CommandOption.{CommandOption}
-use Rattle.cli.specs.declared.option.CommandOption.TheVariants.{Passes, Reserve, Arguments, Answers, Frame, Inline}
-use Rattle.cli.specs.Options.{registers_text, numbers_text, word_of, IsAllowed, IsWordOf}
+use Rattle.cli.specs.declared.option.CommandOption.TheVariants.{Passes, Reserve, Arguments, Answers, Frame, Inline, Linked, Symbols}
+use Rattle.cli.specs.Options.{registers_text, numbers_text, symbols_text, word_of, IsAllowed, IsWordOf}
 
 -- ---- one option for a word
 
@@ -22,6 +25,10 @@ one_reserve xs ys hx hy e = one_text register_name (Contains RESERVABLE) names x
 one_numbers : (most : ℕ) (xs ys : List ℕ) → AreListed most (numbers_text xs) xs → AreListed most (numbers_text ys) ys →
     numbers_text xs ≡ numbers_text ys → xs ≡ ys
 one_numbers most xs ys hx hy e = one_text decimal (λ n. n < 2 ^ 64) decimals xs ys hx.some hy.some hx.small hy.small e
+
+one_symbols : (xs ys : List (Symbol × ℕ)) → IsAddressText (symbols_text xs) xs → IsAddressText (symbols_text ys) ys → symbols_text xs ≡ symbols_text ys →
+    xs ≡ ys
+one_symbols xs ys hx hy e = one_text pair_text CanBeGiven pairs_spelled xs ys hx.some hy.some hx.given hy.given e
 
 -- a byte in which two words differ
 differ : (i m n : ℕ) (v w : List ℕ) → get_or v i 0 ≡ m → get_or w i 0 ≡ n → m < n → (v ≡ w → ⊥) × (w ≡ v → ⊥)
@@ -75,6 +82,45 @@ arguments_inline a = differ 2 97 105 (word_of (Arguments a)) (word_of Inline) re
 answers_inline : (a : List ℕ) → (word_of (Answers a) ≡ word_of Inline → ⊥) × (word_of Inline ≡ word_of (Answers a) → ⊥)
 answers_inline a = differ 2 97 105 (word_of (Answers a)) (word_of Inline) refl refl (omega arith)
 
+linked_passes : (l : List PassKind) → (word_of Linked ≡ word_of (Passes l) → ⊥) × (word_of (Passes l) ≡ word_of Linked → ⊥)
+linked_passes l = differ 2 108 112 (word_of Linked) (word_of (Passes l)) refl refl (omega arith)
+
+linked_reserve : (r : List ℕ) → (word_of Linked ≡ word_of (Reserve r) → ⊥) × (word_of (Reserve r) ≡ word_of Linked → ⊥)
+linked_reserve r = differ 2 108 114 (word_of Linked) (word_of (Reserve r)) refl refl (omega arith)
+
+arguments_linked : (a : List ℕ) → (word_of (Arguments a) ≡ word_of Linked → ⊥) × (word_of Linked ≡ word_of (Arguments a) → ⊥)
+arguments_linked a = differ 2 97 108 (word_of (Arguments a)) (word_of Linked) refl refl (omega arith)
+
+answers_linked : (a : List ℕ) → (word_of (Answers a) ≡ word_of Linked → ⊥) × (word_of Linked ≡ word_of (Answers a) → ⊥)
+answers_linked a = differ 2 97 108 (word_of (Answers a)) (word_of Linked) refl refl (omega arith)
+
+frame_linked : (word_of Frame ≡ word_of Linked → ⊥) × (word_of Linked ≡ word_of Frame → ⊥)
+frame_linked = differ 2 102 108 (word_of Frame) (word_of Linked) refl refl (omega arith)
+
+inline_linked : (word_of Inline ≡ word_of Linked → ⊥) × (word_of Linked ≡ word_of Inline → ⊥)
+inline_linked = differ 2 105 108 (word_of Inline) (word_of Linked) refl refl (omega arith)
+
+passes_symbols : (l : List PassKind) (p : List (Symbol × ℕ)) → (word_of (Passes l) ≡ word_of (Symbols p) → ⊥) × (word_of (Symbols p) ≡ word_of (Passes l) → ⊥)
+passes_symbols l p = differ 2 112 115 (word_of (Passes l)) (word_of (Symbols p)) refl refl (omega arith)
+
+reserve_symbols : (r : List ℕ) (p : List (Symbol × ℕ)) → (word_of (Reserve r) ≡ word_of (Symbols p) → ⊥) × (word_of (Symbols p) ≡ word_of (Reserve r) → ⊥)
+reserve_symbols r p = differ 2 114 115 (word_of (Reserve r)) (word_of (Symbols p)) refl refl (omega arith)
+
+arguments_symbols : (a : List ℕ) (p : List (Symbol × ℕ)) → (word_of (Arguments a) ≡ word_of (Symbols p) → ⊥) × (word_of (Symbols p) ≡ word_of (Arguments a) → ⊥)
+arguments_symbols a p = differ 2 97 115 (word_of (Arguments a)) (word_of (Symbols p)) refl refl (omega arith)
+
+answers_symbols : (a : List ℕ) (p : List (Symbol × ℕ)) → (word_of (Answers a) ≡ word_of (Symbols p) → ⊥) × (word_of (Symbols p) ≡ word_of (Answers a) → ⊥)
+answers_symbols a p = differ 2 97 115 (word_of (Answers a)) (word_of (Symbols p)) refl refl (omega arith)
+
+frame_symbols : (p : List (Symbol × ℕ)) → (word_of Frame ≡ word_of (Symbols p) → ⊥) × (word_of (Symbols p) ≡ word_of Frame → ⊥)
+frame_symbols p = differ 2 102 115 (word_of Frame) (word_of (Symbols p)) refl refl (omega arith)
+
+inline_symbols : (p : List (Symbol × ℕ)) → (word_of Inline ≡ word_of (Symbols p) → ⊥) × (word_of (Symbols p) ≡ word_of Inline → ⊥)
+inline_symbols p = differ 2 105 115 (word_of Inline) (word_of (Symbols p)) refl refl (omega arith)
+
+linked_symbols : (p : List (Symbol × ℕ)) → (word_of Linked ≡ word_of (Symbols p) → ⊥) × (word_of (Symbols p) ≡ word_of Linked → ⊥)
+linked_symbols p = differ 2 108 115 (word_of Linked) (word_of (Symbols p)) refl refl (omega arith)
+
 one_option : (a b : CommandOption) → IsAllowed a → IsAllowed b → word_of a ≡ word_of b → a ≡ b
 one_option (Passes l) (Passes m) ha hb e = ap (λ (x : List PassKind). Passes x) (one_list l m (ap (drop 9) e))
 one_option (Passes l) (Reserve r) ha hb e = absurd ((passes_reserve l r).0 e)
@@ -82,36 +128,64 @@ one_option (Passes l) (Arguments a) ha hb e = absurd ((arguments_passes a l).1 e
 one_option (Passes l) (Answers a) ha hb e = absurd ((answers_passes a l).1 e)
 one_option (Passes l) Frame ha hb e = absurd ((frame_passes l).1 e)
 one_option (Passes l) Inline ha hb e = absurd ((inline_passes l).1 e)
+one_option (Passes l) Linked ha hb e = absurd ((linked_passes l).1 e)
+one_option (Passes l) (Symbols p) ha hb e = absurd ((passes_symbols l p).0 e)
 one_option (Reserve r) (Passes l) ha hb e = absurd ((passes_reserve l r).1 e)
 one_option (Reserve r) (Reserve s) ha hb e = ap (λ (x : List ℕ). Reserve x) (one_reserve r s ha hb (ap (drop 10) e))
 one_option (Reserve r) (Arguments a) ha hb e = absurd ((arguments_reserve a r).1 e)
 one_option (Reserve r) (Answers a) ha hb e = absurd ((answers_reserve a r).1 e)
 one_option (Reserve r) Frame ha hb e = absurd ((frame_reserve r).1 e)
 one_option (Reserve r) Inline ha hb e = absurd ((inline_reserve r).1 e)
+one_option (Reserve r) Linked ha hb e = absurd ((linked_reserve r).1 e)
+one_option (Reserve r) (Symbols p) ha hb e = absurd ((reserve_symbols r p).0 e)
 one_option (Arguments a) (Passes l) ha hb e = absurd ((arguments_passes a l).0 e)
 one_option (Arguments a) (Reserve r) ha hb e = absurd ((arguments_reserve a r).0 e)
 one_option (Arguments a) (Arguments b) ha hb e = ap (λ (x : List ℕ). Arguments x) (one_numbers 8 a b ha hb (ap (drop 7) e))
 one_option (Arguments a) (Answers b) ha hb e = absurd ((answers_arguments b a).1 e)
 one_option (Arguments a) Frame ha hb e = absurd ((arguments_frame a).0 e)
 one_option (Arguments a) Inline ha hb e = absurd ((arguments_inline a).0 e)
+one_option (Arguments a) Linked ha hb e = absurd ((arguments_linked a).0 e)
+one_option (Arguments a) (Symbols p) ha hb e = absurd ((arguments_symbols a p).0 e)
 one_option (Answers a) (Passes l) ha hb e = absurd ((answers_passes a l).0 e)
 one_option (Answers a) (Reserve r) ha hb e = absurd ((answers_reserve a r).0 e)
 one_option (Answers a) (Arguments b) ha hb e = absurd ((answers_arguments a b).0 e)
 one_option (Answers a) (Answers b) ha hb e = ap (λ (x : List ℕ). Answers x) (one_numbers 64 a b ha hb (ap (drop 10) e))
 one_option (Answers a) Frame ha hb e = absurd ((answers_frame a).0 e)
 one_option (Answers a) Inline ha hb e = absurd ((answers_inline a).0 e)
+one_option (Answers a) Linked ha hb e = absurd ((answers_linked a).0 e)
+one_option (Answers a) (Symbols p) ha hb e = absurd ((answers_symbols a p).0 e)
 one_option Frame (Passes l) ha hb e = absurd ((frame_passes l).0 e)
 one_option Frame (Reserve r) ha hb e = absurd ((frame_reserve r).0 e)
 one_option Frame (Arguments a) ha hb e = absurd ((arguments_frame a).1 e)
 one_option Frame (Answers a) ha hb e = absurd ((answers_frame a).1 e)
 one_option Frame Frame ha hb e = refl
 one_option Frame Inline ha hb e = absurd (frame_inline.0 e)
+one_option Frame Linked ha hb e = absurd (frame_linked.0 e)
+one_option Frame (Symbols p) ha hb e = absurd ((frame_symbols p).0 e)
 one_option Inline (Passes l) ha hb e = absurd ((inline_passes l).0 e)
 one_option Inline (Reserve r) ha hb e = absurd ((inline_reserve r).0 e)
 one_option Inline (Arguments a) ha hb e = absurd ((arguments_inline a).1 e)
 one_option Inline (Answers a) ha hb e = absurd ((answers_inline a).1 e)
 one_option Inline Frame ha hb e = absurd (frame_inline.1 e)
 one_option Inline Inline ha hb e = refl
+one_option Inline Linked ha hb e = absurd (inline_linked.0 e)
+one_option Inline (Symbols p) ha hb e = absurd ((inline_symbols p).0 e)
+one_option Linked (Passes l) ha hb e = absurd ((linked_passes l).0 e)
+one_option Linked (Reserve r) ha hb e = absurd ((linked_reserve r).0 e)
+one_option Linked (Arguments a) ha hb e = absurd ((arguments_linked a).1 e)
+one_option Linked (Answers a) ha hb e = absurd ((answers_linked a).1 e)
+one_option Linked Frame ha hb e = absurd (frame_linked.1 e)
+one_option Linked Inline ha hb e = absurd (inline_linked.1 e)
+one_option Linked Linked ha hb e = refl
+one_option Linked (Symbols p) ha hb e = absurd ((linked_symbols p).0 e)
+one_option (Symbols p) (Passes l) ha hb e = absurd ((passes_symbols l p).1 e)
+one_option (Symbols p) (Reserve r) ha hb e = absurd ((reserve_symbols r p).1 e)
+one_option (Symbols p) (Arguments a) ha hb e = absurd ((arguments_symbols a p).1 e)
+one_option (Symbols p) (Answers a) ha hb e = absurd ((answers_symbols a p).1 e)
+one_option (Symbols p) Frame ha hb e = absurd ((frame_symbols p).1 e)
+one_option (Symbols p) Inline ha hb e = absurd ((inline_symbols p).1 e)
+one_option (Symbols p) Linked ha hb e = absurd ((linked_symbols p).1 e)
+one_option (Symbols p) (Symbols q) ha hb e = ap (λ (x : List (Symbol × ℕ)). Symbols x) (one_symbols p q ha hb (ap (drop 10) e))
 
 one_value : (a b : CommandOption) → ◌≡◌ {A = Option CommandOption} (Some a) (Some b) → a ≡ b
 one_value a b e = cc
@@ -125,16 +199,18 @@ the_option word a is b = (
 )
 
 -- a word that is no option of any kind is none
-pub no_option : (word : List ℕ) → (word ≡ codes "--frame" → ⊥) → (word ≡ codes "--inline" → ⊥) → ((l : List PassKind) → IsWordOf (Passes l) word → ⊥) →
-    ((r : List ℕ) → IsWordOf (Reserve r) word → ⊥) →
-    ((a : List ℕ) → IsWordOf (Arguments a) word → ⊥) → ((a : List ℕ) → IsWordOf (Answers a) word → ⊥) → (b : CommandOption) →
-    (◌≡◌ {A = Option CommandOption} None (Some b)) ↔ IsWordOf b word
-no_option word f i p r n a (Passes l) = (λ e. absurd cc, λ h. absurd (p l h))
-no_option word f i p r n a (Reserve s) = (λ e. absurd cc, λ h. absurd (r s h))
-no_option word f i p r n a (Arguments b) = (λ e. absurd cc, λ h. absurd (n b h))
-no_option word f i p r n a (Answers b) = (λ e. absurd cc, λ h. absurd (a b h))
-no_option word f i p r n a Frame = (λ e. absurd cc, λ h. absurd (f h.0))
-no_option word f i p r n a Inline = (λ e. absurd cc, λ h. absurd (i h.0))
+pub no_option : (word : List ℕ) → (word ≡ codes "--frame" → ⊥) → (word ≡ codes "--inline" → ⊥) → (word ≡ codes "--linked" → ⊥) →
+    ((l : List PassKind) → IsWordOf (Passes l) word → ⊥) → ((r : List ℕ) → IsWordOf (Reserve r) word → ⊥) →
+    ((a : List ℕ) → IsWordOf (Arguments a) word → ⊥) → ((a : List ℕ) → IsWordOf (Answers a) word → ⊥) →
+    ((s : List (Symbol × ℕ)) → IsWordOf (Symbols s) word → ⊥) → (b : CommandOption) → (◌≡◌ {A = Option CommandOption} None (Some b)) ↔ IsWordOf b word
+no_option word f i k p r n a y (Passes l) = (λ e. absurd cc, λ h. absurd (p l h))
+no_option word f i k p r n a y (Reserve s) = (λ e. absurd cc, λ h. absurd (r s h))
+no_option word f i k p r n a y (Arguments b) = (λ e. absurd cc, λ h. absurd (n b h))
+no_option word f i k p r n a y (Answers b) = (λ e. absurd cc, λ h. absurd (a b h))
+no_option word f i k p r n a y Frame = (λ e. absurd cc, λ h. absurd (f h.0))
+no_option word f i k p r n a y Inline = (λ e. absurd cc, λ h. absurd (i h.0))
+no_option word f i k p r n a y Linked = (λ e. absurd cc, λ h. absurd (k h.0))
+no_option word f i k p r n a y (Symbols s) = (λ e. absurd cc, λ h. absurd (y s h))
 
 -- ---- numbers and registers as they are read
 

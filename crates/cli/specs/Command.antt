@@ -1,6 +1,7 @@
 -- The commands, and the words of a command line that are each of them.
-use Rattle.std.specs.Prelude.{◌≡◌, ℕ, ◌≤◌, false, List, [], ◌∷◌, codes, Option, Some, None}
+use Rattle.std.specs.Prelude.{◌≡◌, ℕ, ◌≤◌, Bool, true, false, not, ◌&&◌, is_some, List, [], ◌∷◌, codes, Option, Some, None}
 use Rattle.std.specs.Fmt.{decimal}
+use Rattle.rv64_instr.specs.declared.symbol.Symbol.{Symbol}
 use Rattle.cli_numbers.specs.declared.generation.Generation.{Generation}
 use Rattle.cli_numbers.specs.Numbers.{IsGeneration}
 use Rattle.cli.specs.declared.options.Options.{Options}
@@ -24,28 +25,37 @@ abbrev pub numbers_in : Option (List ℕ) → List ℕ
 numbers_in None = []
 numbers_in (Some numbers) = numbers
 
+-- the addresses of `--symbols`: none by default
+abbrev pub addresses_given : Option (List (Symbol × ℕ)) → List (Symbol × ℕ)
+addresses_given None = []
+addresses_given (Some pairs) = pairs
+
 -- the passes of `--passes`: all by default
 abbrev pub passes_in : Option (List PassKind) → List PassKind
 passes_in None = STANDARD
 passes_in (Some passes) = passes
 
--- the plan of these options, which may include `--passes` and `--reserve` but no other
+-- the plan of these options, which may include `--passes`, `--reserve` and `--linked` but no other
 pub record IsPlanOf (given : Options) (plan : PassPipeline) : Type 0 where
   pub passes : plan.passes ≡ passes_in given.passes
   pub reserve : plan.reserve ≡ reserve_in given.reserve
+  pub linked : plan.linked ≡ given.linked
   pub no_arguments : given.arguments ≡ None
   pub no_answers : given.answers ≡ None
   pub no_frame : given.frame ≡ false
   pub no_inline : given.inline ≡ false
+  pub no_symbols : given.symbols ≡ None
 
--- what `compile` writes with these options, which may include `--passes`, `--reserve`, `--frame` and `--inline` but no numbers
+-- what `compile` writes with these options, which may be any but those of numbers and addresses
 pub record IsCompileOf (given : Options) (c : CompilePlan) : Type 0 where
   pub passes : c.plan.passes ≡ passes_in given.passes
   pub reserve : c.plan.reserve ≡ reserve_in given.reserve
+  pub linked : c.plan.linked ≡ given.linked
   pub frame : c.frame ≡ given.frame
   pub inline : c.inline ≡ given.inline
   pub no_arguments : given.arguments ≡ None
   pub no_answers : given.answers ≡ None
+  pub no_symbols : given.symbols ≡ None
 
 -- the words are options, in any order and each at most once, and this is what `compile` writes with them
 abbrev pub GivesCompile : (words : List (List ℕ)) → CompilePlan → Type 0
@@ -55,16 +65,32 @@ GivesCompile words c = (given : Options) × GiveOptions none_given words given �
 abbrev pub GivesPlan : (words : List (List ℕ)) → PassPipeline → Type 0
 GivesPlan words plan = (given : Options) × GiveOptions none_given words given × IsPlanOf given plan
 
--- the run of the function with this name, for at most `count` steps, with these options, which may be any but `--frame` and `--inline`
+-- a plan is another one, which is read in the language that isn't linked
+abbrev pub IsPlainPlan : (plan other : PassPipeline) → Type 0
+IsPlainPlan plan other = (plan ≡ other) × (other.linked ≡ false)
+
+-- the same without `--linked`
+abbrev pub GivesPlainPlan : (words : List (List ℕ)) → PassPipeline → Type 0
+GivesPlainPlan words plan = GivesPlan words plan × (plan.linked ≡ false)
+
+-- addresses of symbols are given for the language that isn't linked
+abbrev pub has_idle_symbols : Options → Bool
+has_idle_symbols given = not given.linked && is_some given.symbols
+
+-- the run of the function with this name, for at most `count` steps, with these options, which may be any but `--frame` and `--inline`, and `--symbols` only
+-- beside `--linked`
 pub record IsRunPlanOf (name : List ℕ) (count : ℕ) (given : Options) (run : RunPlan) : Type 0 where
   pub named : run.name ≡ name
   pub steps : run.steps ≡ count
   pub passes : run.plan.passes ≡ passes_in given.passes
   pub reserve : run.plan.reserve ≡ reserve_in given.reserve
+  pub linked : run.plan.linked ≡ given.linked
   pub arguments : run.arguments ≡ numbers_in given.arguments
   pub answers : run.answers ≡ numbers_in given.answers
+  pub symbols : run.symbols ≡ addresses_given given.symbols
   pub no_frame : given.frame ≡ false
   pub no_inline : given.inline ≡ false
+  pub no_idle_symbols : has_idle_symbols given ≡ false
 
 -- the greatest number of steps of a run
 abbrev pub MAX_STEPS : ℕ
@@ -91,10 +117,10 @@ pub record IsWithin (g : Generation) : Type 0 where
   pub some : 1 ≤ g.blocks
   pub few : g.blocks ≤ 512
 
--- a self-test: the number of a generated function, its number of blocks, and options with a plan, in any order and each at most once
+-- a self-test: the number of a generated function, its number of blocks, and options with a plan without `--linked`, in any order and each at most once
 pub record GivesTestOf (number blocks : List ℕ) (words : List (List ℕ)) (test : TestPlan) : Type 0 where
   pub function : IsGeneration number blocks test.function
-  pub plan : GivesPlan words test.plan
+  pub plan : GivesPlainPlan words test.plan
 
 -- the same, for the words of a self-test
 abbrev pub GivesTest : (words : List (List ℕ)) → TestPlan → Type 0
@@ -102,15 +128,20 @@ GivesTest [] test = ⊥
 GivesTest (number ∷ []) test = ⊥
 GivesTest (number ∷ blocks ∷ words) test = GivesTestOf number blocks words test
 
+-- the words of `strip` behind its name: `--linked`, if functions are read in the linked language
+abbrev pub strip_words : (linked : Bool) → List (List ℕ)
+strip_words true = codes "--linked" ∷ []
+strip_words false = []
+
 -- the words are a command: its name, and then what it needs
 abbrev pub IsCommand : (words : List (List ℕ)) → Command → Type 0
 IsCommand [] command = ⊥
 IsCommand (name ∷ words) (Compile c) = (name ≡ codes "compile") × GivesCompile words c
 IsCommand (name ∷ words) (Listing plan) = (name ≡ codes "listing") × GivesPlan words plan
 IsCommand (name ∷ words) (Report plan) = (name ≡ codes "report") × GivesPlan words plan
-IsCommand (name ∷ words) (Object plan) = (name ≡ codes "object") × GivesPlan words plan
+IsCommand (name ∷ words) (Object plan) = (name ≡ codes "object") × GivesPlainPlan words plan
 IsCommand (name ∷ words) (Run run) = (name ≡ codes "run") × GivesRun words run
-IsCommand (name ∷ words) Strip = (name ≡ codes "strip") × (words ≡ [])
+IsCommand (name ∷ words) (Strip linked) = (name ≡ codes "strip") × (words ≡ strip_words linked)
 IsCommand (name ∷ words) (Gen g) = (name ≡ codes "gen") × (words ≡ decimal g.number ∷ decimal g.blocks ∷ []) × IsWithin g
 IsCommand (name ∷ words) (SelfTest test) = (name ≡ codes "selftest") × GivesTest words test
 
@@ -121,11 +152,11 @@ AreWithin (Listing plan) = Unit {0}
 AreWithin (Report plan) = Unit {0}
 AreWithin (Object plan) = Unit {0}
 AreWithin (Run run) = Unit {0}
-AreWithin Strip = Unit {0}
+AreWithin (Strip linked) = Unit {0}
 AreWithin (Gen g) = IsWithin g
 AreWithin (SelfTest test) = IsWithin test.function
 
--- the name is none of the commands with a plan
+-- the name is none of the commands with options
 pub record IsPlain (name : List ℕ) : Type 0 where
   pub compile : name ≡ codes "compile" → ⊥
   pub listing : name ≡ codes "listing" → ⊥
@@ -133,3 +164,4 @@ pub record IsPlain (name : List ℕ) : Type 0 where
   pub object : name ≡ codes "object" → ⊥
   pub run : name ≡ codes "run" → ⊥
   pub self_test : name ≡ codes "selftest" → ⊥
+  pub strip : name ≡ codes "strip" → ⊥

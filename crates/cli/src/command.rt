@@ -1,9 +1,10 @@
 //! The commands, and the words of a command line that are each of them.
 
-ghost use Rattle.std.specs.Prelude.{◌≡◌, ◌↔◌, ◌∷◌, [], false, map, string_bytes, Some, IfOk};
-ghost use Rattle.cli.specs.Command.{IsCommand, IsPlain, GivesPlan, IsPlanOf, reserve_in};
-ghost use Rattle.cli.specs.Command.{GivesRun, GivesSteps, IsRunPlanOf, numbers_in, passes_in};
-ghost use Rattle.cli.specs.Command.{GivesTest, GivesTestOf, GivesCompile, IsCompileOf};
+ghost use Rattle.std.specs.Prelude.{◌≡◌, ◌↔◌, ◌∷◌, [], Bool, false, map, string_bytes, Some, IfOk};
+ghost use Rattle.cli.specs.Command.{IsCommand, IsPlain, GivesPlan, GivesPlainPlan, IsPlainPlan, IsPlanOf, reserve_in};
+ghost use Rattle.cli.specs.Command.{GivesRun, GivesSteps, IsRunPlanOf, addresses_given, has_idle_symbols, numbers_in};
+ghost use Rattle.cli.specs.Command.{passes_in};
+ghost use Rattle.cli.specs.Command.{GivesTest, GivesTestOf, GivesCompile, IsCompileOf, strip_words};
 ghost use Rattle.cli.specs.declared.command.CompilePlan.{CompilePlan};
 ghost use Rattle.cli.specs.declared.command.Command.{Command};
 ghost use Rattle.cli.specs.declared.command.PassPipeline.{PassPipeline};
@@ -19,18 +20,21 @@ use pass_list::kind::is_same;
 use pass_list::list::PassList;
 use rv64_instr::name::Name;
 use rv64_instr::reg::Registers;
+use rv64_instr::symbol::SymbolAddresses;
 use std::alloc::{AllocError, Global};
 
 /// The greatest number of steps of a run.
 const MAX_STEPS: u64 = 1_000_000;
 
-/// How each function is transformed before it is compiled.
+/// How each function is read, and transformed before it is compiled.
 #[derive(Debug, Drop)]
 pub struct PassPipeline {
     /// The passes, in their order.
     pub passes: PassList,
     /// The registers that may be spilled.
     pub reserve: Registers,
+    /// Whether functions are read in the linked language.
+    pub linked: bool,
 }
 
 /// What `compile` writes.
@@ -57,6 +61,8 @@ pub struct RunPlan {
     pub arguments: Numbers,
     /// The return values of the functions that it calls.
     pub answers: Numbers,
+    /// The addresses of symbols.
+    pub symbols: SymbolAddresses,
 }
 
 /// The self-test of a function.
@@ -82,8 +88,8 @@ pub enum Command {
     Object(PassPipeline),
     /// Writes the steps of a function's machine code, with the values of its variables.
     Run(RunPlan),
-    /// Writes each function without its debug items.
-    Strip,
+    /// Writes each function without its debug items. The flag is whether functions are read in the linked language.
+    Strip(bool),
     /// Writes a generated function.
     Gen(Generation),
     /// Writes how many values the location lists of a generated function have along a run of its machine code.
@@ -92,11 +98,12 @@ pub enum Command {
 
 /// The command that the words are; `None` if they are none. `compile`, `listing`, `report` and `object` have options
 /// in any order: a list of passes, as `--passes=copy,fold` or `--passes=none`, and registers that may be spilled, as
-/// `--reserve=x8,x18`. `compile` has the options `--frame` and `--inline` too. `run` has a function's name, its
-/// greatest number of steps, 0 to 1,000,000, and the options of `listing`, as well as the function's arguments, as
-/// `--args=1,2`, and the return values of its calls, as `--answers=3`. `strip` has nothing else. `gen` has the number
-/// of a function, 0 to 65,536, and its number of blocks, 1 to 512. `selftest` has such numbers and the options of
-/// `listing`.
+/// `--reserve=x8,x18`; all but `object` have `--linked`, for functions in the linked language. `compile` has the
+/// options `--frame` and `--inline` too. `run` has a function's name, its greatest number of steps, 0 to 1,000,000, and
+/// the options of `listing`, as well as the function's arguments, as `--args=1,2`, the return values of its calls, as
+/// `--answers=3`, and beside `--linked` addresses of symbols, as `--symbols=g=4096`. `strip` has `--linked` alone. `gen`
+/// has the number of a function, 0 to 65,536, and its number of blocks, 1 to 512. `selftest` has such numbers and the
+/// options of `object`.
 pub fn parse(alloc: Global, words: &[String]) -> Result<Option<Command>, AllocError>
     ensures { IfOk result (λ o. (command : Command) →
         (o ≡ Some command) ↔ IsCommand (map string_bytes words.now) command) }
@@ -131,7 +138,7 @@ fn named(alloc: Global, name: &str, words: &[String]) -> Result<Option<Command>,
         };
     }
     if is_same(name, "object") {
-        return match plan_asked(alloc, words)? {
+        return match plain_plan_asked(alloc, words)? {
             Some(plan) => Ok(Some(Command::Object(plan))),
             None => Ok(None),
         };
@@ -148,17 +155,33 @@ fn named(alloc: Global, name: &str, words: &[String]) -> Result<Option<Command>,
             None => Ok(None),
         };
     }
-    Ok(without_plan(name, words))
+    if is_same(name, "strip") {
+        return match strip_asked(words) {
+            Some(linked) => Ok(Some(Command::Strip(linked))),
+            None => Ok(None),
+        };
+    }
+    Ok(without_options(name, words))
 }
 
-/// The command without a plan that has this name and these words after it.
-fn without_plan(name: &str, words: &[String]) -> Option<Command>
+/// Whether `strip` is asked for functions in the linked language; `None` if the words are others.
+fn strip_asked(words: &[String]) -> Option<bool>
+    ensures { (linked : Bool) → (result ≡ Some linked) ↔ (map string_bytes words.now ≡ strip_words linked) }
+{
+    match words {
+        [] => Some(false),
+        [word] if is_same(word.as_str(), "--linked") => Some(true),
+        _ => None,
+    }
+}
+
+/// The command without options that has this name and these words after it.
+fn without_options(name: &str, words: &[String]) -> Option<Command>
     requires { IsPlain name.now }
     ensures { (command : Command) →
         (result ≡ Some command) ↔ IsCommand (name.now ∷ map string_bytes words.now) command }
 {
     match words {
-        [] if is_same(name, "strip") => Some(Command::Strip),
         [number, blocks] if is_same(name, "gen") => {
             match asked(number.as_str(), blocks.as_str()) {
                 Some(generation) => Some(Command::Gen(generation)),
@@ -169,7 +192,8 @@ fn without_plan(name: &str, words: &[String]) -> Option<Command>
     }
 }
 
-/// What `compile` writes with options; `None` if a word is no option, an option repeats, or one has numbers.
+/// What `compile` writes with options; `None` if a word is no option, an option repeats, or one has numbers or
+/// addresses.
 fn compile_asked(alloc: Global, words: &[String]) -> Result<Option<CompilePlan>, AllocError>
     ensures { IfOk result (λ o. (plan : CompilePlan) →
         (o ≡ Some plan) ↔ GivesCompile (map string_bytes words.now) plan) }
@@ -180,7 +204,7 @@ fn compile_asked(alloc: Global, words: &[String]) -> Result<Option<CompilePlan>,
     }
 }
 
-/// What `compile` writes with options; `None` if numbers are among them.
+/// What `compile` writes with options; `None` if numbers or addresses are among them.
 fn compile_of(alloc: Global, given: Options) -> Option<CompilePlan>
     ensures { (plan : CompilePlan) → (result ≡ Some plan) ↔ IsCompileOf given plan }
 {
@@ -191,14 +215,17 @@ fn compile_of(alloc: Global, given: Options) -> Option<CompilePlan>
         answers,
         frame,
         inline,
+        linked,
+        symbols,
     } = given;
-    if arguments.is_some() || answers.is_some() {
+    if arguments.is_some() || answers.is_some() || symbols.is_some() {
         return None;
     }
     Some(CompilePlan {
         plan: PassPipeline {
             passes: passes_in(passes),
             reserve: reserve_in(alloc, reserve),
+            linked,
         },
         frame,
         inline,
@@ -226,14 +253,36 @@ fn plan_of(alloc: Global, given: Options) -> Option<PassPipeline>
         answers,
         frame,
         inline,
+        linked,
+        symbols,
     } = given;
-    if arguments.is_some() || answers.is_some() || frame || inline {
+    if arguments.is_some() || answers.is_some() || frame || inline || symbols.is_some() {
         return None;
     }
     Some(PassPipeline {
         passes: passes_in(passes),
         reserve: reserve_in(alloc, reserve),
+        linked,
     })
+}
+
+/// The plan of options; `None` if a word is no option, an option repeats, or one isn't of a plan, or is `--linked`.
+fn plain_plan_asked(alloc: Global, words: &[String]) -> Result<Option<PassPipeline>, AllocError>
+    ensures { IfOk result (λ o. (plan : PassPipeline) →
+        (o ≡ Some plan) ↔ GivesPlainPlan (map string_bytes words.now) plan) }
+{
+    match plan_asked(alloc, words)? {
+        Some(plan) => Ok(plain(plan)),
+        None => Ok(None),
+    }
+}
+
+/// The plan, unless functions are read in the linked language.
+fn plain(plan: PassPipeline) -> Option<PassPipeline>
+    ensures { (other : PassPipeline) → (result ≡ Some other) ↔ IsPlainPlan plan other }
+{
+    let linked = plan.linked;
+    if linked { None } else { Some(plan) }
 }
 
 /// The run of these words: a function's name, a number of steps, and options; `None` if they are none.
@@ -270,14 +319,26 @@ fn steps_asked(
     if with_inline {
         return Ok(None);
     }
+    let with_idle = has_idle_symbols(&given);
+    if with_idle {
+        return Ok(None);
+    }
     let name = Name::from_slice(alloc, name.as_bytes())?;
     Ok(Some(run_of(alloc, name, count as u32, given)))
+}
+
+/// Whether addresses of symbols are given for the language that isn't linked.
+fn has_idle_symbols(given: &Options) -> bool
+    ensures { result ≡ has_idle_symbols given.now }
+{
+    !given.linked && given.symbols.is_some()
 }
 
 /// The run of the function with this name, for at most `steps` steps, with options.
 fn run_of(alloc: Global, name: Name, steps: u32, given: Options) -> RunPlan
     requires frame { given.frame ≡ false }
     requires inline { given.inline ≡ false }
+    requires idle { has_idle_symbols given ≡ false }
     ensures { (run : RunPlan) → (result ≡ run) ↔ IsRunPlanOf name steps given run }
 {
     let Options {
@@ -287,6 +348,8 @@ fn run_of(alloc: Global, name: Name, steps: u32, given: Options) -> RunPlan
         answers,
         frame: _,
         inline: _,
+        linked,
+        symbols,
     } = given;
     RunPlan {
         name,
@@ -294,9 +357,11 @@ fn run_of(alloc: Global, name: Name, steps: u32, given: Options) -> RunPlan
         plan: PassPipeline {
             passes: passes_in(passes),
             reserve: reserve_in(alloc, reserve),
+            linked,
         },
         arguments: numbers_in(alloc, arguments),
         answers: numbers_in(alloc, answers),
+        symbols: addresses_given(alloc, symbols),
     }
 }
 
@@ -323,7 +388,7 @@ fn test_of(
     let Some(function) = asked(number, blocks) else {
         return Ok(None);
     };
-    match plan_asked(alloc, words)? {
+    match plain_plan_asked(alloc, words)? {
         Some(plan) => Ok(Some(TestPlan { function, plan })),
         None => Ok(None),
     }
@@ -346,6 +411,16 @@ fn numbers_in(alloc: Global, given: Option<Numbers>) -> Numbers
     match given {
         Some(numbers) => numbers,
         None => Numbers::new(alloc),
+    }
+}
+
+/// The addresses of `--symbols`: none by default.
+fn addresses_given(alloc: Global, given: Option<SymbolAddresses>) -> SymbolAddresses
+    ensures { result ≡ addresses_given given }
+{
+    match given {
+        Some(pairs) => pairs,
+        None => SymbolAddresses::new(alloc),
     }
 }
 

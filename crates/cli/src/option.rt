@@ -1,17 +1,20 @@
 //! One option with its value.
 
 ghost use Rattle.std.specs.Prelude.{◌≡◌, ◌↔◌, List, ℕ, Some, IfOk};
+ghost use Rattle.rv64_instr.specs.declared.symbol.Symbol.{Symbol};
 ghost use Rattle.pass_list.specs.declared.kind.PassKind.{PassKind};
 ghost use Rattle.cli.specs.Options.{IsWordOf};
 ghost use Rattle.cli.specs.declared.option.CommandOption.{CommandOption};
-ghost use Rattle.cli.specs.declared.option.CommandOption.TheVariants.{Passes, Reserve};
+ghost use Rattle.cli.specs.declared.option.CommandOption.TheVariants.{Passes, Reserve, Symbols};
 
 use cli_numbers::list::{Numbers, option};
+use cli_numbers::symbols::symbol_addresses;
 use cli_numbers::text::reserve_list;
 use pass_list::kind::is_same;
 use pass_list::list::PassList;
 use pass_list::text::pass_list;
 use rv64_instr::reg::Registers;
+use rv64_instr::symbol::SymbolAddresses;
 use std::alloc::{AllocError, Global};
 
 /// The greatest number of arguments.
@@ -35,6 +38,10 @@ pub enum CommandOption {
     Frame,
     /// `--inline`: with inlined functions, and the section `.debug_rnglists`.
     Inline,
+    /// `--linked`: functions are read in the linked language.
+    Linked,
+    /// `--symbols=` and the addresses of symbols.
+    Symbols(SymbolAddresses),
 }
 
 /// The option that a word is; `None` if it is none.
@@ -47,6 +54,9 @@ pub fn command_option(alloc: Global, word: &str) -> Result<Option<CommandOption>
     if is_same(word, "--inline") {
         return Ok(Some(CommandOption::Inline));
     }
+    if is_same(word, "--linked") {
+        return Ok(Some(CommandOption::Linked));
+    }
     if let Some(list) = passes(word) {
         return Ok(Some(CommandOption::Passes(list)));
     }
@@ -58,6 +68,9 @@ pub fn command_option(alloc: Global, word: &str) -> Result<Option<CommandOption>
     }
     if let Some(values) = option(alloc, word, "--answers=", MAX_ANSWERS)? {
         return Ok(Some(CommandOption::Answers(values)));
+    }
+    if let Some(pairs) = symbols(alloc, word)? {
+        return Ok(Some(CommandOption::Symbols(pairs)));
     }
     Ok(None)
 }
@@ -78,6 +91,16 @@ fn reserve(alloc: Global, word: &str) -> Result<Option<Registers>, AllocError>
 {
     match word.strip_prefix("--reserve=") {
         Some(text) => reserve_list(alloc, text),
+        None => Ok(None),
+    }
+}
+
+/// The addresses of symbols in a word, as `--symbols=g=4096,%const.0=8`.
+fn symbols(alloc: Global, word: &str) -> Result<Option<SymbolAddresses>, AllocError>
+    ensures { IfOk result (λ o. (pairs : List (Symbol × ℕ)) → (o ≡ Some pairs) ↔ IsWordOf (Symbols pairs) word.now) }
+{
+    match word.strip_prefix("--symbols=") {
+        Some(text) => symbol_addresses(alloc, text),
         None => Ok(None),
     }
 }

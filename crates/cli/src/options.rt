@@ -8,6 +8,7 @@ use crate::option::CommandOption;
 use cli_numbers::list::Numbers;
 use pass_list::list::PassList;
 use rv64_instr::reg::Registers;
+use rv64_instr::symbol::SymbolAddresses;
 
 /// The options in a command line, each with its value.
 #[derive(Debug, Drop)]
@@ -24,6 +25,10 @@ pub struct Options {
     pub frame: bool,
     /// Whether the entries of inlined functions are asked for.
     pub inline: bool,
+    /// Whether functions are read in the linked language.
+    pub linked: bool,
+    /// The addresses of symbols.
+    pub symbols: Option<SymbolAddresses>,
 }
 
 impl Options {
@@ -38,6 +43,8 @@ impl Options {
             answers: None,
             frame: false,
             inline: false,
+            linked: false,
+            symbols: None,
         }
     }
 
@@ -86,6 +93,20 @@ impl Options {
                     return None;
                 }
                 self.inline = true;
+                Some(self)
+            }
+            CommandOption::Linked => {
+                if self.linked {
+                    return None;
+                }
+                self.linked = true;
+                Some(self)
+            }
+            CommandOption::Symbols(pairs) => {
+                if self.symbols.is_some() {
+                    return None;
+                }
+                self.symbols = Some(pairs);
                 Some(self)
             }
         }

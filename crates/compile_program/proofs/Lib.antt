@@ -3,4 +3,5 @@ pub mod Behind
 pub mod Compiled
 pub mod Passed
 pub mod Described
-pub mod Refused
+pub use Rattle.compile_function.proofs.AfterPasses
+pub use Rattle.compile_function.proofs.Located

@@ -1,6 +1,6 @@
 -- The output of compiling a program.
 use Rattle.std.specs.Prelude.{◌≡◌, ℕ, ◌+◌, ◌*◌, ◌<◌, ◌≤◌, ◌⊎◌, List, [], ◌∷◌, length, map, All, Contains, Option, None, Some, IfSome}
-use Rattle.emit_code.specs.Laid.{LaidCode, IsCodeOf}
+use Rattle.emit_code.specs.Laid.{IsCodeOf}
 use Rattle.emit_code.specs.Rule.{words_of}
 use Rattle.listing_text.specs.declared.output.ListedFunction.{ListedFunction}
 use Rattle.listing_text.specs.declared.output.Output.{Output}
@@ -14,17 +14,20 @@ use Rattle.dwarf_loclists.specs.Spelling.{spelling as lists_spelling}
 use Rattle.pass_trait.specs.Steps.{PassStep}
 use Rattle.frame_rule.specs.Rule.{reach_of, framed_of}
 pub use Rattle.compile_function.specs.Emitted.{names_of, text_of, lists_of, AreWritable}
-use Rattle.compile_function.specs.declared.compiled_function.CompiledFunction.{CompiledFunction}
+pub use Rattle.compile_function.specs.declared.compiled_function.CompiledFunction.{CompiledFunction}
+pub use Rattle.compile_function.specs.declared.error.CompileError.{CompileError}
+pub use Rattle.compile_function.specs.declared.error.CompileError.TheVariants.{NoRegister, FrameTooLarge, SectionTooLarge}
 pub use Rattle.compile_function.specs.Passed.{source_of, GetsRegisters, LeavesVirtual, IsMadeBy, IsMadeLosing, IsCompilable, steps_of, passes_of}
 use Rattle.read_metadata.specs.Maps.{Maps}
 use Rattle.mir_func.specs.Function.{Function}
 use Rattle.mir_func.specs.Limits.{MAX_FRAME}
 use Rattle.read_program.specs.declared.closing.Parsed.{Parsed}
 use Rattle.read_program.specs.declared.program.Program.{Program}
+pub use Rattle.compile_theorem.specs.Compiled.{AreCoded}
 use Rattle.compile_theorem.specs.Compiled.{IsCompiledFunction, AreCompiled, IsCompiledProgram}
 use Rattle.compile_theorem.specs.Source.{SourceFunction, PassedFunction, IsPassedFunction}
 use Rattle.pass_list.specs.declared.kind.PassKind.{PassKind}
-use Rattle.compile_program.specs.declared.compile.Compilation.{Compilation}
+pub use Rattle.compile_program.specs.declared.compile.Compilation.{Compilation}
 use Rattle.dwarf_line_table.specs.declared.source_and_code.SourceAndCode.{SourceAndCode}
 use Rattle.dwarf_line_table.specs.Program.{table_of}
 use Rattle.dwarf_sections.specs.Frame.{IsFrameSection, IsLargeFrameSection}
@@ -48,13 +51,6 @@ ArePassed meta (f ∷ fs) [] = ⊥
 ArePassed meta (f ∷ fs) (p ∷ ps) = (p.source ≡ source_of f) × IsCompilable meta p × ArePassed meta fs ps
 
 -- ---- machine code
-
--- machine code of functions with their frames, one after the other from an address on
-abbrev pub AreCoded : (base : ℕ) → List Function → List LaidCode → Type 0
-AreCoded base [] [] = Unit {0}
-AreCoded base [] (c ∷ cs) = ⊥
-AreCoded base (f ∷ fs) [] = ⊥
-AreCoded base (f ∷ fs) (c ∷ cs) = IsCodeOf (framed_of f) base c × AreCoded (base + 4 * length c.words) fs cs
 
 -- The functions that were read, each with the machine code of its passed function. The code begins at address 0.
 pub record HaveCode (functions : List PassedFunction) (compiled : List SourceAndCode) : Type 0 where

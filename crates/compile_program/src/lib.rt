@@ -4,3 +4,7 @@
 
 pub mod compile;
 mod function;
+
+pub use compile_function::{
+    compiled_function as compiled_function, error as error, lists as lists,
+};

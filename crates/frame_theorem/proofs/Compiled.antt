@@ -23,14 +23,13 @@ use Rattle.listing_text.specs.declared.output.ListedFunction.{ListedFunction}
 use Rattle.listing_text.specs.declared.output.Output.{Output}
 use Rattle.listing_meaning.specs.Program.{image_of}
 use Rattle.listing_meaning.proofs.Images.{image_shown}
-use Rattle.compile_theorem.specs.Compiled.{bytes_of, IsCompiledFunction, AreCompiled}
+use Rattle.compile_theorem.specs.Compiled.{bytes_of, AreCoded, IsCompiledFunction, AreCompiled}
 use Rattle.compile_theorem.specs.Laws.{AreCompiledTo}
 use Rattle.compile_theorem.specs.OutputProperties.{variable_lines}
 use Rattle.compile_theorem.specs.Source.{PassedFunction, IsPassedFunction}
 use Rattle.compile_theorem.proofs.Functions.{IsCompiledIn, compiled_in, as_many, of_sources}
 use Rattle.compile_theorem.proofs.Headline.{formed, unfixed}
 use Rattle.compile_theorem.proofs.Telling.{all_at}
-use Rattle.compile_program.specs.Program.{AreCoded}
 use Rattle.frame_theorem.specs.Compiled.{CompiledUnwinds}
 use Rattle.frame_theorem.specs.Laws.{SparesKept, ShowsFrames}
 use Rattle.frame_theorem.specs.Unwinding.{AlwaysUnwinds}

@@ -5,7 +5,7 @@ use Rattle.dwarf_sections.specs.Frame.{IsFrameSection}
 use Rattle.listing_text.specs.declared.output.Output.{Output}
 use Rattle.compile_theorem.specs.Laws.{AreCompiledTo}
 use Rattle.compile_theorem.specs.Source.{PassedFunction, sources_among}
-use Rattle.compile_program.specs.Program.{AreCoded}
+use Rattle.compile_theorem.specs.Compiled.{AreCoded}
 use Rattle.frame_theorem.specs.Laws.{SparesKept}
 use Rattle.frame_theorem.specs.Unwinding.{AllUnwind}
 

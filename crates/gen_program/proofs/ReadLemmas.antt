@@ -112,17 +112,17 @@ below : (r : ℕ) → r < 32 → r < 4128
 below r l = omega (arith, l)
 
 limited_made : {kind : ItemKind} → IsMade TOP kind → KindIsLimited kind
-limited_made (adds rd rs rt k a b c l) = (three IsLimited _ _ _ (below rd a.1) (below rs b.1) (below rt c.1), low k l, refl)
-limited_made (copies rd rs k a b l) = (two IsLimited _ _ (below rd a.1) (below rs b.1), low k l, refl)
-limited_made gives = (two IsLimited _ _ (lit< tt) (lit< tt), tt, refl)
-limited_made (sets rd n k a l m) = (three IsLimited _ _ _ (below rd a.1) (lit< tt) (constant_signed n l), low k m, refl)
-limited_made (stores rs n a l) = (three IsLimited _ _ _ (below rs a.1) (slot_low n l) zero_signed, tt, refl)
-limited_made (loads rd n k a l m) = (three IsLimited _ _ _ (below rd a.1) (slot_low n l) zero_signed, low k m, refl)
+limited_made (adds rd rs rt k a b c l) = (three IsLimited _ _ _ (below rd a.1) (below rs b.1) (below rt c.1), low k l)
+limited_made (copies rd rs k a b l) = (two IsLimited _ _ (below rd a.1) (below rs b.1), low k l)
+limited_made gives = (two IsLimited _ _ (lit< tt) (lit< tt), tt)
+limited_made (sets rd n k a l m) = (three IsLimited _ _ _ (below rd a.1) (lit< tt) (constant_signed n l), low k m)
+limited_made (stores rs n a l) = (three IsLimited _ _ _ (below rs a.1) (slot_low n l) zero_signed, tt)
+limited_made (loads rd n k a l m) = (three IsLimited _ _ _ (below rd a.1) (slot_low n l) zero_signed, low k m)
 limited_made (phis rs k a l) = ((a.0, below rs a.1), low k l)
 limited_made (marks n k l m) = ((node_low n l, tt), (low k m, lit≤ tt))
-limited_made (branches rs n a l) = (three IsLimited _ _ _ (below rs a.1) (lit< tt) (low n l), tt, refl)
-limited_made (jumps n l) = (one IsLimited _ (low n l), tt, refl)
-limited_made returns = (one IsLimited _ (lit< tt), tt, refl)
+limited_made (branches rs n a l) = (three IsLimited _ _ _ (below rs a.1) (lit< tt) (low n l), tt)
+limited_made (jumps n l) = (one IsLimited _ (low n l), tt)
+limited_made returns = (one IsLimited _ (lit< tt), tt)
 
 module _ (meta : Maps) (number_of_it count : ℕ) where
   abbrev declared : Declared

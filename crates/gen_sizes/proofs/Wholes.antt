@@ -32,9 +32,9 @@ use Rattle.compile_theorem.specs.Source.{SourceFunction, PassedFunction}
 use Rattle.compile_theorem.specs.Compiled.{IsCompiledFunction}
 use Rattle.compile_theorem.proofs.Framing.{framed_all}
 use Rattle.compile_theorem.proofs.Variables.{MarksOther, nowhere}
-use Rattle.compile_function.specs.Passed.{IsCompilable}
-use Rattle.compile_function.proofs.AfterPasses.{in_order, in_blocks}
-use Rattle.compile_function.proofs.Located.{all_each}
+use Rattle.compile_program.specs.Program.{IsCompilable}
+use Rattle.compile_program.proofs.AfterPasses.{in_order, in_blocks}
+use Rattle.compile_program.proofs.Located.{all_each}
 use Rattle.gen_program.specs.Laws.{MarksWhole}
 use Rattle.gen_sizes.proofs.Lists.{IsShortList, is_short, section_small}
 

@@ -31,7 +31,7 @@ use Rattle.mir_func.specs.declared.variable.VarId.{VarId}
 use Rattle.mir_func.specs.declared.variable.MarkValue.{MarkValue}
 use Rattle.mir_func.specs.declared.variable.MarkValue.TheVariants.{Nothing, Constant, At, Pair}
 use Rattle.mir_printer.specs.Spelling.{item_text, kind_text, location_text, number_text, mark_text, phi_text, instruction_text, definitions_text, uses_text}
-use Rattle.mir_printer.specs.Spelling.{is_definition}
+use Rattle.mir_printer.specs.Spelling.{is_definition, uses_behind}
 use Rattle.mir_printer.specs.Spelling.{operand_text, register_text, comma_separated}
 use Rattle.mir_printer.specs.Printable.{IsNumber, HasNumbers, IsPrintableKind, Declared, IsPrintableInstruction}
 use Rattle.mir_printer.proofs.Cuts.{front_one, apart, run_one}
@@ -248,27 +248,27 @@ no_other op t a r other e = differ (compared a.op a.first a.second r) (mnemonic_
     (branch_begins a.op (codes " " ++ (register_text a.first ++ (codes ", " ++ (register_text a.second ++ (codes ", " ++ r)))))) (others_begin op t other) e
 
 no_opcode : (op : Op) (os : List Operand) (a : SkipLine) (r s : List ℕ) → has_form op os ≡ true → All HasNumbers os → IsPrintableSkip a →
-    compared a.op a.first a.second (codes "+8" ++ r) ≡ mnemonic_of op ++ (uses_text (filter (λ o. not (is_definition o)) os) ++ s) → ⊥
+    compared a.op a.first a.second (codes "+8" ++ r) ≡ mnemonic_of op ++ (uses_text (uses_behind op os) ++ s) → ⊥
 no_opcode (Branch op) os a r s form numbers is e = no_branch_by op os a r s form numbers is e
-no_opcode (Registers op) os a r s form numbers is e = no_other (Registers op) (uses_text (filter (λ o. not (is_definition o)) os) ++ s) a
+no_opcode (Registers op) os a r s form numbers is e = no_other (Registers op) (uses_text (uses_behind (Registers op) os) ++ s) a
     (codes "+8" ++ r) refl e
-no_opcode (Immediate op) os a r s form numbers is e = no_other (Immediate op) (uses_text (filter (λ o. not (is_definition o)) os) ++ s) a
+no_opcode (Immediate op) os a r s form numbers is e = no_other (Immediate op) (uses_text (uses_behind (Immediate op) os) ++ s) a
     (codes "+8" ++ r) refl e
-no_opcode Lui os a r s form numbers is e = no_other Lui (uses_text (filter (λ o. not (is_definition o)) os) ++ s) a (codes "+8" ++ r) refl e
-no_opcode (Load op) os a r s form numbers is e = no_other (Load op) (uses_text (filter (λ o. not (is_definition o)) os) ++ s) a (codes "+8" ++ r) refl e
-no_opcode (Store op) os a r s form numbers is e = no_other (Store op) (uses_text (filter (λ o. not (is_definition o)) os) ++ s) a (codes "+8" ++ r) refl e
-no_opcode Copy os a r s form numbers is e = no_other Copy (uses_text (filter (λ o. not (is_definition o)) os) ++ s) a (codes "+8" ++ r) refl e
-no_opcode PseudoBr os a r s form numbers is e = no_other PseudoBr (uses_text (filter (λ o. not (is_definition o)) os) ++ s) a (codes "+8" ++ r) refl e
-no_opcode PseudoCall os a r s form numbers is e = no_other PseudoCall (uses_text (filter (λ o. not (is_definition o)) os) ++ s) a (codes "+8" ++ r) refl e
-no_opcode PseudoRet os a r s form numbers is e = no_other PseudoRet (uses_text (filter (λ o. not (is_definition o)) os) ++ s) a (codes "+8" ++ r) refl e
+no_opcode Lui os a r s form numbers is e = no_other Lui (uses_text (uses_behind Lui os) ++ s) a (codes "+8" ++ r) refl e
+no_opcode (Load op) os a r s form numbers is e = no_other (Load op) (uses_text (uses_behind (Load op) os) ++ s) a (codes "+8" ++ r) refl e
+no_opcode (Store op) os a r s form numbers is e = no_other (Store op) (uses_text (uses_behind (Store op) os) ++ s) a (codes "+8" ++ r) refl e
+no_opcode Copy os a r s form numbers is e = no_other Copy (uses_text (uses_behind Copy os) ++ s) a (codes "+8" ++ r) refl e
+no_opcode PseudoBr os a r s form numbers is e = no_other PseudoBr (uses_text (uses_behind PseudoBr os) ++ s) a (codes "+8" ++ r) refl e
+no_opcode PseudoCall os a r s form numbers is e = no_other PseudoCall (uses_text (uses_behind PseudoCall os) ++ s) a (codes "+8" ++ r) refl e
+no_opcode PseudoRet os a r s form numbers is e = no_other PseudoRet (uses_text (uses_behind PseudoRet os) ++ s) a (codes "+8" ++ r) refl e
 no_opcode PseudoCallIndirect os a r s form numbers is e =
-    no_other PseudoCallIndirect (uses_text (filter (λ o. not (is_definition o)) os) ++ s) a (codes "+8" ++ r) refl e
-no_opcode PseudoTail os a r s form numbers is e = no_other PseudoTail (uses_text (filter (λ o. not (is_definition o)) os) ++ s) a (codes "+8" ++ r) refl e
+    no_other PseudoCallIndirect (uses_text (uses_behind PseudoCallIndirect os) ++ s) a (codes "+8" ++ r) refl e
+no_opcode PseudoTail os a r s form numbers is e = no_other PseudoTail (uses_text (uses_behind PseudoTail os) ++ s) a (codes "+8" ++ r) refl e
 no_opcode PseudoTailIndirect os a r s form numbers is e =
-    no_other PseudoTailIndirect (uses_text (filter (λ o. not (is_definition o)) os) ++ s) a (codes "+8" ++ r) refl e
-no_opcode NoReturnCall os a r s form numbers is e = no_other NoReturnCall (uses_text (filter (λ o. not (is_definition o)) os) ++ s) a (codes "+8" ++ r) refl e
+    no_other PseudoTailIndirect (uses_text (uses_behind PseudoTailIndirect os) ++ s) a (codes "+8" ++ r) refl e
+no_opcode NoReturnCall os a r s form numbers is e = no_other NoReturnCall (uses_text (uses_behind NoReturnCall os) ++ s) a (codes "+8" ++ r) refl e
 no_opcode NoReturnCallIndirect os a r s form numbers is e =
-    no_other NoReturnCallIndirect (uses_text (filter (λ o. not (is_definition o)) os) ++ s) a (codes "+8" ++ r) refl e
+    no_other NoReturnCallIndirect (uses_text (uses_behind NoReturnCallIndirect os) ++ s) a (codes "+8" ++ r) refl e
 
 compared_begins : (a : SkipLine) (r : List ℕ) → begins_with_b (compared a.op a.first a.second (codes "+8" ++ r)) ≡ true
 compared_begins a r = branch_begins a.op (codes " " ++ (register_text a.first ++ (codes ", " ++ (register_text a.second ++ (codes ", " ++ (codes "+8" ++ r))))))
@@ -280,19 +280,19 @@ no_instruction_by : (objects : ℕ → Bool) (i : Instruction) (a : SkipLine) (r
     Defines i.operands →
     compared a.op a.first a.second (codes "+8" ++ r) ≡ instruction_text i ++ s → ⊥
 no_instruction_by objects i a r s is skips (nothing none) e =
-    let text : instruction_text i ++ s ≡ mnemonic_of i.op ++ (uses_text (filter (λ o. not (is_definition o)) i.operands) ++ s) =
-    ap (λ (ds : List Operand). (definitions_text ds ++ mnemonic_of i.op ++ uses_text (filter (λ o. not (is_definition o)) i.operands)) ++ s) none
-    ∙ append_assoc (mnemonic_of i.op) (uses_text (filter (λ o. not (is_definition o)) i.operands)) s in
+    let text : instruction_text i ++ s ≡ mnemonic_of i.op ++ (uses_text (uses_behind i.op i.operands) ++ s) =
+    ap (λ (ds : List Operand). (definitions_text ds ++ mnemonic_of i.op ++ uses_text (uses_behind i.op i.operands)) ++ s) none
+    ∙ append_assoc (mnemonic_of i.op) (uses_text (uses_behind i.op i.operands)) s in
     no_opcode i.op i.operands a r s is.form is.numbers skips (e ∙ text)
 no_instruction_by objects i a r s is skips (something n more some) e =
     let text : instruction_text i ++ s ≡ comma_separated (map operand_text (OfDef n ∷ more)) ++ (codes " = " ++ (mnemonic_of i.op ++
-    (uses_text (filter (λ o. not (is_definition o)) i.operands) ++ s))) =
-    ap (λ (ds : List Operand). (definitions_text ds ++ mnemonic_of i.op ++ uses_text (filter (λ o. not (is_definition o)) i.operands)) ++ s) some
+    (uses_text (uses_behind i.op i.operands) ++ s))) =
+    ap (λ (ds : List Operand). (definitions_text ds ++ mnemonic_of i.op ++ uses_text (uses_behind i.op i.operands)) ++ s) some
     ∙ define_parts (comma_separated (map operand_text (OfDef n ∷ more))) (codes " = ") (mnemonic_of i.op)
-    (uses_text (filter (λ o. not (is_definition o)) i.operands)) s in
+    (uses_text (uses_behind i.op i.operands)) s in
     differ (compared a.op a.first a.second (codes "+8" ++ r)) (comma_separated (map operand_text (OfDef n ∷ more)) ++ (codes " = " ++ (mnemonic_of i.op ++
-    (uses_text (filter (λ o. not (is_definition o)) i.operands) ++ s)))) (compared_begins a r) (separated_begins n more (codes " = " ++ (mnemonic_of i.op ++
-    (uses_text (filter (λ o. not (is_definition o)) i.operands) ++ s)))) (e ∙ text)
+    (uses_text (uses_behind i.op i.operands) ++ s)))) (compared_begins a r) (separated_begins n more (codes " = " ++ (mnemonic_of i.op ++
+    (uses_text (uses_behind i.op i.operands) ++ s)))) (e ∙ text)
 
 mark_begins : (v : VarId) (m : MarkValue) (s : List ℕ) → begins_with_b (mark_text v m ++ s) ≡ false
 mark_begins v Nothing s = refl

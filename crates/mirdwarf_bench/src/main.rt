@@ -13,7 +13,7 @@ fn main(rt: HostRuntime) -> io::Result<()> {
     if text.len() > 1_000_000_000 {
         return Ok(());
     }
-    let found = documents(rt.alloc(), text)?;
+    let found = documents(rt.alloc(), false, text)?;
     let mut count: usize = 0;
     for function in found.functions.as_slice() {
         for line in function.body.as_slice() {

@@ -5,9 +5,8 @@ use Rattle.dwarf_loclists.specs.Ranges.{Ascend}
 use Rattle.read_program.specs.declared.program.Program.{Program}
 use Rattle.compile_theorem.specs.Source.{PassedFunction}
 use Rattle.pass_list.specs.declared.kind.PassKind.{PassKind}
-use Rattle.compile_function.specs.declared.compiled_function.CompiledFunction.{CompiledFunction}
+use Rattle.compile_program.specs.Program.{CompiledFunction, ArePassed, AreCompiledAs, IsCompilationOf, names_of}
 use Rattle.compile_program.specs.declared.compile.Compilation.{Compilation}
-use Rattle.compile_program.specs.Program.{ArePassed, AreCompiledAs, IsCompilationOf, names_of}
 use Rattle.report_function.specs.declared.reported_function.ReportedFunction.{ReportedFunction}
 use Rattle.report_function.specs.ReportText.{program_report}
 

@@ -4,8 +4,8 @@ ghost use Rattle.std.specs.Prelude.{◌≡◌, ◌++◌, IfOk, OnOk, map};
 ghost use Rattle.report_command.specs.ProgramReport.{HasLists, HaveLists, part_of, parts_of, compilation_report};
 ghost use Rattle.report_function.specs.ReportText.{function_report, program_report};
 
-use compile_function::compiled_function::CompiledFunction;
 use compile_program::compile::Compilation;
+use compile_program::compiled_function::CompiledFunction;
 use listing_text::output::{ListedFunction, ListedVariable};
 use mir_printer::text::Text;
 use report_function::make::make_report;

@@ -15,9 +15,8 @@ use Rattle.compile_theorem.specs.OutputProperties.{variable_lines, variable_list
 use Rattle.compile_theorem.specs.Source.{PassedFunction}
 use Rattle.read_program.specs.declared.program.Program.{Program}
 use Rattle.pass_list.specs.declared.kind.PassKind.{PassKind}
-use Rattle.compile_function.specs.declared.compiled_function.CompiledFunction.{CompiledFunction}
+use Rattle.compile_program.specs.Program.{CompiledFunction, AreCompiledAs, IsCompilationOf, names_of, text_of, lists_of}
 use Rattle.compile_program.specs.declared.compile.Compilation.{Compilation}
-use Rattle.compile_program.specs.Program.{AreCompiledAs, IsCompilationOf, names_of, text_of, lists_of}
 use Rattle.dwarf_unit.specs.Variables.{variables_of_function}
 use Rattle.compile_program.proofs.Compiled.{ends, all_compiled, all_writable, as_many_compiled}
 use Rattle.run_command.specs.Runs.{CanRun, CompilationsCanRun}

@@ -18,9 +18,8 @@ use Rattle.compile_theorem.specs.Source.{PassedFunction, IsPassedFunction}
 use Rattle.pass_list.specs.declared.kind.PassKind.{PassKind}
 use Rattle.compile_program.proofs.Passed.{all_passed}
 use Rattle.read_program.specs.declared.program.Program.{Program}
-use Rattle.compile_function.specs.declared.compiled_function.CompiledFunction.{CompiledFunction}
+use Rattle.compile_program.specs.Program.{CompiledFunction, AreCompiledAs, IsCompilationOf, names_of, lists_of}
 use Rattle.compile_program.specs.declared.compile.Compilation.{Compilation}
-use Rattle.compile_program.specs.Program.{AreCompiledAs, IsCompilationOf, names_of, lists_of}
 use Rattle.sim_machine.specs.Shown.{ShowsCode}
 use Rattle.listing_meaning.proofs.Images.{image_shown}
 use Rattle.listing_meaning.specs.Program.{image_of}

@@ -5,6 +5,7 @@ use Rattle.std.specs.Prelude.{slice_get, slice_index_or}
 use Rattle.std.proofs.lemmas.List.Elements.{All-nil, All-cons, All-head, All-tail}
 use Rattle.std.proofs.lemmas.Option.{slice_get-map, slice_get-get_or}
 use Rattle.rv64_instr.specs.declared.place.Place.{Place}
+use Rattle.rv64_instr.specs.declared.symbol.Symbol.{Symbol}
 use Rattle.mir_func.specs.Variables.{part_value}
 use Rattle.std.specs.Prelude.{option_map}
 use Rattle.sem_machine.specs.Machine.{Machine, machine_start, place_content}
@@ -180,9 +181,10 @@ module _ (reserve : List ℕ) (passes : List PassKind) (p : Program) (c : Compil
   promised : Promises (sources_of p.functions) c.output
   promised = of_read (λ ss. Promises ss c.output) (compiled_promises (names_of p.meta) output.functions c.output to)
 
-  pub run_of_program : (is : IsCompilationOf reserve passes p c) (name : List ℕ) (limit : ℕ) (arguments values text : List ℕ) →
-      IsRunOf c name limit arguments values text → IsRunOfProgram (steps_of reserve passes) p name limit arguments values text
-  run_of_program is name limit arguments values text run =
+  pub run_of_program : (is : IsCompilationOf reserve passes p c) (name : List ℕ) (limit : ℕ) (addresses : List (Symbol × ℕ))
+      (arguments values text : List ℕ) → IsRunOf c name limit addresses arguments values text →
+      IsRunOfProgram (steps_of reserve passes) p name limit addresses arguments values text
+  run_of_program is name limit addresses arguments values text run =
       let f = run.named.function in
       let read : IsFirstRead name p.functions run.number = first_read name c.output.functions p.functions names_stay run.number run.named in
       let source : slice_get (sources_of p.functions) run.number ≡ Some (source_of read.function) =
@@ -219,8 +221,8 @@ module _ (reserve : List ℕ) (passes : List PassKind) (p : Program) (c : Compil
       }
 
 pub runs_are_of_programs : RunsAreOfPrograms
-runs_are_of_programs reserve passes p c name limit arguments values text output is run =
-    run_of_program reserve passes p c output is name limit arguments values text run
+runs_are_of_programs reserve passes p c name limit addresses arguments values text output is run =
+    run_of_program reserve passes p c output is name limit addresses arguments values text run
 
 pub all_names_are_read : NamesAreRead
 all_names_are_read reserve passes p c name output none = names_are_read reserve passes p c output name none

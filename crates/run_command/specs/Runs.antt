@@ -1,14 +1,14 @@
 -- Runs of the functions of a compiled program.
 use Rattle.std.specs.Prelude.{◌≡◌, ◌≢◌, ℕ, ◌+◌, ◌*◌, ◌<◌, ◌≤◌, ◌^◌, List, length, map, take, All, Some, slice_get}
+use Rattle.rv64_instr.specs.declared.symbol.Symbol.{Symbol}
 use Rattle.listing_text.specs.declared.output.ListedFunction.{ListedFunction}
 use Rattle.listing_text.specs.declared.output.ListedVariable.{ListedVariable}
 use Rattle.dwarf_loclists.specs.declared.range.Range.{Range}
 use Rattle.dwarf_loclists.specs.Ranges.{Ascend, ArePlaces}
 use Rattle.read_program.specs.declared.program.Program.{Program}
 use Rattle.pass_list.specs.declared.kind.PassKind.{PassKind}
-use Rattle.compile_function.specs.declared.compiled_function.CompiledFunction.{CompiledFunction}
-use Rattle.compile_program.specs.declared.compile.Compilation.{Compilation}
-use Rattle.compile_program.specs.Program.{IsCompilationOf, lists_of}
+use Rattle.compile_program.specs.Program.{CompiledFunction, IsCompilationOf, lists_of}
+pub use Rattle.compile_program.specs.declared.compile.Compilation.{Compilation}
 use Rattle.sim_start.specs.InitialMachine.{IsTextOfAskedRun}
 use Rattle.sim_trace.specs.Variables.{variable_of}
 use Rattle.sim_machine.specs.Shown.{ShowsCode}
@@ -26,12 +26,12 @@ pub record IsFirstNamed (name : List ℕ) (functions : List ListedFunction) (num
   pub first : HasNone name (take number functions)
 
 -- The text is that of a run of the first function with the name: of its machine code, with its listed variables by their location lists.
-pub record IsRunOf (c : Compilation) (name : List ℕ) (limit : ℕ) (arguments values : List ℕ) (text : List ℕ) : Type 0 where
+pub record IsRunOf (c : Compilation) (name : List ℕ) (limit : ℕ) (addresses : List (Symbol × ℕ)) (arguments values : List ℕ) (text : List ℕ) : Type 0 where
   pub number : ℕ
   pub named : IsFirstNamed name c.output.functions number
   pub compiled : CompiledFunction
   pub stands : slice_get c.functions number ≡ Some compiled
-  pub runs : IsTextOfAskedRun compiled.code arguments values (map (variable_of (lists_of c.functions)) named.function.variables) limit text
+  pub runs : IsTextOfAskedRun compiled.code addresses arguments values (map (variable_of (lists_of c.functions)) named.function.variables) limit text
 
 -- Each function has its code, at 32-bit addresses, and each variable has a location list that can be read.
 pub record CanRun (c : Compilation) : Type 0 where

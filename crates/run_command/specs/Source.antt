@@ -1,6 +1,7 @@
 -- A run of a function of a compiled program, and the run of its source.
-use Rattle.std.specs.Prelude.{◌≡◌, ◌≢◌, ◌⊎◌, ℕ, ◌*◌, ◌%◌, ◌^◌, ◌<◌, List, [], map, take, All, Some, slice_get, true}
+use Rattle.std.specs.Prelude.{◌≡◌, ◌≢◌, ◌⊎◌, ℕ, ◌*◌, ◌%◌, ◌^◌, ◌<◌, List, map, take, All, Some, slice_get, true}
 use Rattle.rv64_instr.specs.Linked.{addresses_in}
+use Rattle.rv64_instr.specs.declared.symbol.Symbol.{Symbol}
 use Rattle.sem_machine.specs.Headline.{StartsAt, AlignsWith, FailsBeforeLine, MachineAlong}
 use Rattle.sem_machine.specs.Image.{CodeLine, Image, line_at}
 use Rattle.sem_machine.specs.Machine.{Machine, machine_start, register, place_content}
@@ -50,11 +51,12 @@ pub record IsFirstRead (name : List ℕ) (functions : List Parsed) (number : ℕ
 -- ---- the start
 
 -- A start of a function such that the machine on its image begins with these arguments: they are in x10 and the registers after it, x1 is 4294967296
--- and x2 1048576, every other register is 1000 plus its number, and memory is 0. The results of the calls are these values.
-pub record BeginsAsked (source : Function) (image : Image) (arguments values : List ℕ) (limit : ℕ) (s : State) : Type 0 where
+-- and x2 1048576, every other register is 1000 plus its number, and memory is 0. Symbols have these addresses, and the results of the calls are these
+-- values.
+pub record BeginsAsked (source : Function) (image : Image) (addresses : List (Symbol × ℕ)) (arguments values : List ℕ) (limit : ℕ) (s : State) : Type 0 where
   pub starts : StartsAt source s
   pub entry : s.core.entry ≡ 1048576
-  pub symbols : s.core.symbols ≡ addresses_in []
+  pub symbols : s.core.symbols ≡ addresses_in addresses
   pub regs : (r : ℕ) → r < 32 → register (machine_start image s) r ≡ start_register arguments r
   pub memory : (a : ℕ) → s.core.memory a ≡ 0
   pub script : s.core.script ≡ replies values 1 limit
@@ -87,7 +89,8 @@ TellsSource source image f lists = (s0 : State) → StartsAt source.function s0 
 -- The text is that of a run of the first function with a name. There is an output, compiled of what steps of passes made of the program. The text is
 -- that of the machine's run on the function's image in this output, with the variables by their location lists in the output, and the values of
 -- variables are the source's.
-pub record IsRunOfProgram (steps : List PassStep) (p : Program) (name : List ℕ) (limit : ℕ) (arguments values text : List ℕ) : Type 0 where
+pub record IsRunOfProgram (steps : List PassStep) (p : Program) (name : List ℕ) (limit : ℕ) (addresses : List (Symbol × ℕ))
+    (arguments values text : List ℕ) : Type 0 where
   pub number : ℕ
   pub read : IsFirstRead name p.functions number
   pub output : Output
@@ -96,7 +99,7 @@ pub record IsRunOfProgram (steps : List PassStep) (p : Program) (name : List ℕ
   pub stands : slice_get output.functions number ≡ Some listed
   pub lists : List (List Range)
   pub section : IsSection output.loclists lists
-  pub runs : (s : State) → BeginsAsked read.function.func (image_of output listed) arguments values limit s →
+  pub runs : (s : State) → BeginsAsked read.function.func (image_of output listed) addresses arguments values limit s →
       IsRunText (image_of output listed) (map (variable_of lists) listed.variables) limit (machine_start (image_of output listed) s) text
   pub source : TellsSource (source_of read.function) (image_of output listed) listed lists
 
@@ -104,9 +107,10 @@ pub record IsRunOfProgram (steps : List PassStep) (p : Program) (name : List ℕ
 
 -- The run of a compilation is one of its program.
 abbrev pub RunsAreOfPrograms : Type 0
-RunsAreOfPrograms = (reserve : List ℕ) (passes : List PassKind) (p : Program) (c : Compilation) (name : List ℕ) (limit : ℕ) (arguments values text : List ℕ) →
-    IsOutputOf (steps_of reserve passes) p c.output → IsCompilationOf reserve passes p c → IsRunOf c name limit arguments values text →
-    IsRunOfProgram (steps_of reserve passes) p name limit arguments values text
+RunsAreOfPrograms = (reserve : List ℕ) (passes : List PassKind) (p : Program) (c : Compilation) (name : List ℕ) (limit : ℕ)
+    (addresses : List (Symbol × ℕ)) (arguments values text : List ℕ) → IsOutputOf (steps_of reserve passes) p c.output →
+    IsCompilationOf reserve passes p c → IsRunOf c name limit addresses arguments values text →
+    IsRunOfProgram (steps_of reserve passes) p name limit addresses arguments values text
 
 -- If no function of a compilation has a name, no function that was read has it.
 abbrev pub NamesAreRead : Type 0

@@ -4,3 +4,5 @@
 pub mod laws;
 pub mod name;
 pub mod run;
+
+pub use compile_program::{compile as compile, error as error};

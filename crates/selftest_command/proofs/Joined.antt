@@ -7,14 +7,13 @@ use Rattle.rv64_instr.specs.declared.place.Place.{Place}
 use Rattle.std.specs.List.{flat_map}
 use Rattle.std.specs.Int.{w32, to_le_bytes}
 use Rattle.emit_code.specs.Laid.{LaidCode}
-use Rattle.compile_program.proofs.Passed.{all_passed, passed_sources}
+use Rattle.run_command.proofs.Passed.{all_passed, passed_sources}
 use Rattle.run_command.proofs.Runs.{compilation_can_run}
 use Rattle.run_command.proofs.Shown.{compiled_whole, compilation_shows_code}
-use Rattle.compile_function.specs.declared.compiled_function.CompiledFunction.{CompiledFunction}
-use Rattle.compile_program.specs.declared.compile.Compilation.{Compilation}
-use Rattle.compile_program.specs.Program.{ArePassed, IsCompiledAs, AreCompiledAs, sources_of, IsCompilationOf, IsOutputOf, HasVirtualRegister}
-use Rattle.compile_program.specs.Program.{HasLargeFrame, HasLargeSection}
-use Rattle.compile_program.specs.Program.{names_of, source_of, text_of, lists_of, IsCompilable, steps_of}
+use Rattle.run_command.specs.Program.{CompiledFunction, HasLargeFrame, HasLargeSection}
+use Rattle.run_command.specs.Runs.{Compilation}
+use Rattle.run_command.specs.Program.{ArePassed, IsCompiledAs, AreCompiledAs, sources_of, IsCompilationOf, IsOutputOf, HasVirtualRegister}
+use Rattle.run_command.specs.Program.{names_of, source_of, text_of, lists_of, IsCompilable, steps_of}
 use Rattle.listing_text.specs.declared.output.ListedFunction.{ListedFunction}
 use Rattle.listing_text.specs.declared.output.ListedVariable.{ListedVariable}
 use Rattle.selftest_count.specs.Runs.{GoApart}

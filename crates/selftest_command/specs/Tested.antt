@@ -6,9 +6,8 @@ use Rattle.gen_program.specs.Program.{generated_program}
 use Rattle.mir_func.specs.Resolve.{resolve}
 use Rattle.gen_function.specs.Generator.{generated}
 use Rattle.pass_list.specs.declared.kind.PassKind.{PassKind}
-use Rattle.compile_function.specs.declared.compiled_function.CompiledFunction.{CompiledFunction}
-use Rattle.compile_program.specs.declared.compile.Compilation.{Compilation}
-use Rattle.compile_program.specs.Program.{IsCompilationOf, IsOutputOf, steps_of}
+use Rattle.run_command.specs.Program.{CompiledFunction, IsCompilationOf, IsOutputOf, steps_of}
+use Rattle.run_command.specs.Runs.{Compilation}
 use Rattle.sim_machine.specs.Shown.{ShowsCode}
 use Rattle.listing_meaning.specs.Program.{image_of}
 use Rattle.dwarf_unit.specs.Variables.{variables_of_function}

@@ -55,14 +55,14 @@ module _ (start : Start) (regs : (r : ℕ) → r < 32 → get_or start.regs r 0 
 
   pub both_start : (source : Function) (src : Program) (c : LaidCode) (lists : List (List Range)) (parts : List VarId) (n : Counts) (h : Hart) (k : Concrete) →
       n ≡ no_counts → ((s : Machine) → StartsCode c start s → StandsFor h s) →
-      ((s : State) → Starts source.objects source.blocks start s → StandsForSource k s) → (image : Image) (m : Machine) (s : State) → BeginsRun c [] m →
+      ((s : State) → Starts source.objects source.blocks start s → StandsForSource k s) → (image : Image) (m : Machine) (s : State) → BeginsRun c [] [] m →
       BeginsSource source s → Beside src image lists parts m s n h k false
   both_start source src c lists parts n h k none stands stands_source image m s begins begins_source = record {
     machine = m;
     state = s;
     since = SinceStart;
     counted = subst (λ (q : Counts). Counted src image lists parts m s q m s SinceStart) (sym none) at_start;
-    stands = stands m (starts c [] start m regs memory symbols begins);
+    stands = stands m (starts c [] [] start m regs memory symbols begins);
     at = record { stands = stands_source s (source_starts source s begins_source); script = begins_source.script };
     moves = no_after;
   }

@@ -38,11 +38,11 @@ pub record BeginsSource (source : Function) (s : State) : Type 0 where
 -- the source's.
 abbrev pub AreCountsOf : (source : Function) → (OperandPair → Option OperandPair) → LaidCode → List (List Range) → List VarId → (limit : ℕ) → Counts → Type 0
 AreCountsOf source resolve c lists parts limit n =
-    (image : Image) (m : Machine) (s : State) → ShowsCode c image → BeginsRun c [] m → BeginsSource source s →
+    (image : Image) (m : Machine) (s : State) → ShowsCode c image → BeginsRun c [] [] m → BeginsSource source s →
     AreCounts (program_of true source.blocks resolve) image lists parts limit m s n
 
 -- On each image of the code, the machine's run from the start without arguments and the source's diverge within `limit` steps.
 abbrev pub GoApart : (source : Function) → (OperandPair → Option OperandPair) → LaidCode → List (List Range) → List VarId → (limit : ℕ) → Type 0
 GoApart source resolve c lists parts limit =
-    (image : Image) (m : Machine) (s : State) → ShowsCode c image → BeginsRun c [] m → BeginsSource source s →
+    (image : Image) (m : Machine) (s : State) → ShowsCode c image → BeginsRun c [] [] m → BeginsSource source s →
     GoesApart (program_of true source.blocks resolve) image c lists parts limit m s

@@ -17,6 +17,7 @@ use mir_func::func::Func;
 use mir_func::variable::VarId;
 use mir_substitution::substitutions::Substitutions;
 use rv64_instr::start::Values;
+use rv64_instr::symbol::SymbolAddresses;
 use sem_interpreter::state::SourceState;
 use sim_machine::machine::MachineSimulator;
 use sim_start::answers::ValueAnswers;
@@ -43,7 +44,7 @@ pub fn count_run(
     ensures apart { IfOk result (λ o.
         IfNone o (GoApart source.now (resolve subs.now) code.now lists.now parts.now limit)) }
 {
-    let start = start_with(alloc, &[]);
+    let start = start_with(alloc, SymbolAddresses::new(alloc), &[]);
     let answers = ValueAnswers {
         values: Values::new(alloc),
     };

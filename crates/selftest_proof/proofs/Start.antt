@@ -5,6 +5,7 @@ use Rattle.std.proofs.Common.{refl, sym, ap, ◌∙◌, subst, arith}
 use Rattle.std.specs.List.{All}
 use Rattle.std.proofs.lemmas.Bool.{lt-ltb, ltb-true}
 use Rattle.std.proofs.lemmas.List.Elements.{All-nil}
+use Rattle.rv64_instr.specs.Linked.{addresses_in}
 use Rattle.mir_func.specs.Function.{Function}
 use Rattle.mir_func.specs.Graph.{block_start}
 use Rattle.mir_func.specs.Objects.{area_of, offset_of}
@@ -29,7 +30,7 @@ start_state source = record {
     entry = 1048576;
     area = area_of source.objects;
     objects = offset_of source.objects;
-    symbols = λ y. 0;
+    symbols = addresses_in [];
     regs = start_regs;
     slots = λ _. None;
     memory = λ _. 0;
@@ -98,7 +99,7 @@ starts_at source s b = record {
   two_low = omega arith
 
 pub begins_run : (source : Function) (s : State) (c : LaidCode) (image : Image) → BeginsSource source s → ShowsCode c image →
-    BeginsRun c [] (machine_start image s)
+    BeginsRun c [] [] (machine_start image s)
 begins_run source s c image b shows = record {
   entry = b.entry;
   area = shows.area;

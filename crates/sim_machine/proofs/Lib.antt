@@ -1,4 +1,5 @@
 pub mod Calls
+pub mod Departures
 pub mod Registers
 pub mod Rows
 pub mod Sites

@@ -189,6 +189,9 @@ transfer_found f e c t at is =
     subst (λ (o : Option Call). TransfersSo t o (entry_left f e)) (sym (fetch_calls x c at))
     (subst (λ (o : Option (Ending Callee)). TransfersSo t (call_of (row_of c)) o) (sym (fetch_leaves x c at)) is)
 
+pub leaves_found : (f : FramedFunction) (e : EncodedInstruction) (c : Instruction) → instruction_in f e.point ≡ Some c → entry_left f e ≡ left_by (row_of c)
+leaves_found f e c at = fetch_leaves (fetch_in (drop e.point.block f.blocks) e.point.item) c at
+
 -- what an ending does for a callee
 pub transfer_back : (ending : Ending Callee) → ShowsWay Back ending.way → TransfersSo Nothing None (left_by (Returns ending))
 transfer_back ending shows = (refl, ap (elsewhere ending) shows)

@@ -9,7 +9,7 @@ use Rattle.rv64_word.specs.Linked.{linked_word}
 use Rattle.sim_machine.specs.Shown.{entry_row}
 use Rattle.rv64_instr.specs.declared.decoded.Callee.{Callee as Decoded}
 use Rattle.rv64_instr.specs.declared.decoded.Way.{Way}
-use Rattle.rv64_instr.specs.declared.decoded.Way.TheVariants.{Back as Returns}
+use Rattle.rv64_instr.specs.declared.decoded.Way.TheVariants.{Back as Returns, Tail as Tails, Never as Leads}
 use Rattle.rv64_instr.specs.Decoded.{ShowsCallee, ShowsWay}
 use Rattle.rv64_instr.specs.Row.{Row, Calls, row_of, implicit_uses, CallSite, Callee, Ending, Way as LeavingWay, Back}
 use Rattle.rv64_word.specs.declared.machine_op.MachineOp.{MachineOp}
@@ -34,7 +34,7 @@ use Rattle.sim_machine.specs.declared.hart.Hart.{Hart}
 use Rattle.sim_machine.specs.Kept.{StandsFor, Goes}
 use Rattle.sim_machine.specs.Calls.{event_of, after_call}
 use Rattle.sim_machine.specs.declared.site.Transfer.TheVariants.{Call, Departure}
-use Rattle.sim_machine.specs.Running.{StopsSo, found_call, call_at, StepsOn, CallsOn}
+use Rattle.sim_machine.specs.Running.{line_left, StandsThere, StopsSo, found_call, call_at, StepsOn, CallsOn}
 use Rattle.sim_machine.specs.steps.Sites.{TransfersSo, GoesThere}
 use Rattle.sim_machine.specs.Shown.{IsLineOf, AreLinesOf, ShowsCode, entry_at, entry_call, entry_left}
 
@@ -115,7 +115,7 @@ departure_step c image s e ending shows found none leaves =
 
 pub return_step : (image : Image) (s : Machine) (w : ℕ) (h : WordStep image s w) → w ≡ return_word → StopsSo (Ended Returns) image s
 return_step image s w h e =
-    (h.ending, h.is ∙ ap (λ (t : Bool). cond t (Ends (result_at s h.ending)) (does_operation (decoded w) s)) (eq-eqb w return_word e), h.back)
+    (h.ending, h.is ∙ ap (λ (t : Bool). cond t (Ends (result_at s h.ending)) (does_operation (decoded w) s)) (eq-eqb w return_word e), h.back, tt)
 
 pub other_step : (image : Image) (s : Machine) (w : ℕ) (o : Option MachineOp) → WordStep image s w → (w ≡ return_word → ⊥) → decoded w ≡ o →
     machine_step image s ≡ does_operation o s
@@ -188,6 +188,11 @@ calls_left gives c h e = record {
       let no : ◌≡◌ {A = Option CallSite} None (Some site) = sym (entry_call_at c h s None stands e) ∙ some in absurd cc);
 }
 
+stands_there : (way : Way) (left : Option (Ending Callee)) (ending : Ending Callee) → left ≡ Some ending → StandsThere left ending way
+stands_there Returns left ending e = tt
+stands_there (Tails callee) left ending e = e
+stands_there (Leads callee) left ending e = e
+
 -- control leaves the function for a callee, unless the word doesn't go there
 pub steps_departure : (c : LaidCode) (h : Hart) (e : EncodedInstruction) (way : Way) (word : ℕ) (leaves : Bool) → entry_at c.entries e.address ≡ Some e →
     h.counter ≡ e.address → TransfersSo (Departure way) (entry_call c.framed e) (entry_left c.framed e) →
@@ -198,15 +203,21 @@ steps_departure c h e way word leaves found at to shown tells image s shows stan
   there : word_at image.text s.counter ≡ Some word
   there = word_there c image h s e (Some word) stands at (shown image shows)
 
+  here : entry_at c.entries s.counter ≡ Some e
+  here = ap (entry_at c.entries) (stands.counter ∙ at) ∙ found
+
+  left : line_left (line_at image.lines s.counter) ≡ Some to.0
+  left = let l = line_some c.framed c.entries image.lines s.counter e shows.lines here in ap line_left l.stands ∙ (l.is.left ∙ to.1)
+
   step : machine_step image s ≡ cond leaves (Ends (result_at s to.0)) BadStep
   step =
-      departure_step c image s e to.0 shows (ap (entry_at c.entries) (stands.counter ∙ at) ∙ found) to.2 to.1
+      departure_step c image s e to.0 shows here to.2 to.1
       ∙ ap (λ (o : Option ℕ). does_ending to.0 o s) there
       ∙ ap (λ (t : Bool). cond t (Ends (result_at s to.0)) BadStep) (sym (tells to.0.way s.counter to.3))
 
   by_word : (t : Bool) → leaves ≡ t → StopsSo (cond t (Ended way) (BadWord word)) image s
-  by_word true e = (to.0, step ∙ ap (λ (t : Bool). cond t (Ends (result_at s to.0)) BadStep) e, to.3)
-  by_word false e = (step ∙ ap (λ (t : Bool). cond t (Ends (result_at s to.0)) BadStep) e, there)
+  by_word true is = (to.0, step ∙ ap (λ (t : Bool). cond t (Ends (result_at s to.0)) BadStep) is, to.3, stands_there way _ to.0 left)
+  by_word false is = (step ∙ ap (λ (t : Bool). cond t (Ends (result_at s to.0)) BadStep) is, there)
 
 -- an entry that is no call makes none
 pub calls_word : (gives : CallEvent → Reply → Type 0) (c : LaidCode) (r : Stepped) (h new : Hart) (e : EncodedInstruction) →

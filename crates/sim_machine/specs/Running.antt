@@ -1,13 +1,15 @@
 -- How a step of the simulator ends, in terms of the machine semantics.
 use Rattle.std.specs.Prelude.{◌≡◌, ℕ, List, ◌∷◌, Option, Some, None, false}
+use Rattle.rv64_instr.specs.declared.decoded.Way.{Way}
+use Rattle.rv64_instr.specs.declared.decoded.Way.TheVariants.{Back, Tail, Never}
 use Rattle.rv64_instr.specs.Decoded.{ShowsWay}
 use Rattle.rv64_instr.specs.declared.start.CallEvent.{CallEvent}
-use Rattle.rv64_instr.specs.Row.{CallSite, Callee, Ending}
+use Rattle.rv64_instr.specs.Row.{CallSite, Callee, Ending, row_of}
 use Rattle.sem_mir.specs.State.{Reply, writes_frame}
-use Rattle.sem_machine.specs.Image.{Image, word_at}
+use Rattle.sem_machine.specs.Image.{CodeLine, Image, line_at, word_at}
 use Rattle.sem_machine.specs.Machine.{Machine}
 use Rattle.sem_machine.specs.MachineStep as step
-use Rattle.sem_machine.specs.MachineStep.{machine_step, Ends, Leaves, result_at}
+use Rattle.sem_machine.specs.MachineStep.{machine_step, left_by, Ends, Leaves, result_at}
 use Rattle.emit_code.specs.declared.code.EncodedInstruction.{EncodedInstruction}
 use Rattle.emit_code.specs.Laid.{LaidCode}
 use Rattle.mir_func.specs.Function.{FramedFunction}
@@ -20,10 +22,22 @@ use Rattle.sim_machine.specs.Kept.{StandsFor, Goes}
 use Rattle.sim_machine.specs.Calls.{event_of}
 use Rattle.sim_machine.specs.Shown.{ShowsCode, entry_at, entry_call}
 
+-- how control leaves the function for a callee at a line, if it does
+abbrev pub line_left : Option CodeLine → Option (Ending Callee)
+line_left None = None
+line_left (Some l) = left_by (row_of l.instruction)
+
+-- where the run ends on this way for a callee, this ending stands there
+abbrev pub StandsThere : (left : Option (Ending Callee)) → Ending Callee → Way → Type 0
+StandsThere left ending Back = Unit {0}
+StandsThere left ending (Tail callee) = left ≡ Some ending
+StandsThere left ending (Never callee) = left ≡ Some ending
+
 -- A step from s stops for this reason: the run ends on this way, no code line is at the program counter, or the word there is this one, which encodes no
 -- machine operation or doesn't go to the line's callee.
 abbrev pub StopsSo : Stop → Image → Machine → Type 0
 StopsSo (Ended way) image s = (ending : Ending Callee) × (machine_step image s ≡ Ends (result_at s ending)) × ShowsWay way ending.way
+    × StandsThere (line_left (line_at image.lines s.counter)) ending way
 StopsSo Left image s = machine_step image s ≡ Leaves
 StopsSo (BadWord w) image s = (machine_step image s ≡ step.BadWord) × (word_at image.text s.counter ≡ Some w)
 

@@ -3,13 +3,14 @@
 ghost use Rattle.std.specs.Prelude.{◌≡◌, ◌<◌, ◌≤◌, ◌+◌, ◌^◌, ◌++◌, true, List, All, Some, map, IfOk, OnOk, OnErr};
 ghost use Rattle.rv64_instr.specs.DefsAndUses.{caller_saved};
 ghost use Rattle.rv64_instr.specs.LocationEffects.{is_call};
-ghost use Rattle.rv64_instr.specs.Row.{CallSite, Callee, row_of, implicit_uses, outgoing_words};
+ghost use Rattle.rv64_instr.specs.Row.{CallSite, Callee, Ending, row_of, implicit_uses, outgoing_words};
 ghost use Rattle.sem_mir.specs.State.{Reply};
 ghost use Rattle.sem_interpreter.specs.Acts.{reply_of};
 ghost use Rattle.sem_machine.specs.Machine.{Machine, register, set_all_in};
-ghost use Rattle.sem_machine.specs.MachineStep.{call_of, called_at, callee_size, words_from};
+ghost use Rattle.sem_machine.specs.MachineStep.{call_of, called_at, callee_size, left_by, words_from};
 ghost use Rattle.sim_machine.specs.Kept.{StandsFor, IsSameFrame};
 ghost use Rattle.sim_machine.specs.Calls.{event_of, after_call};
+ghost use Rattle.sim_machine.specs.Departures.{is_leaving, way_target};
 ghost use Rattle.sim_machine.specs.steps.Arguments.{argument_of, word_of, callee_named, NamesCallee};
 
 use crate::hart::Hart;
@@ -37,6 +38,18 @@ impl Hart {
                     number: self.calls.wrapping_add(1),
                 })
             }
+            None => unreachable!(),
+        }
+    }
+
+    /// What an instruction leaves the function for.
+    pub fn left_for(&self, i: &Instr) -> Result<CallTarget, AllocError>
+        requires { is_leaving i.now.op ≡ true }
+        ensures { IfOk result (λ t. (s : Machine) (ending : Ending Callee) → StandsFor self.now s
+            → left_by (row_of i.now) ≡ Some ending → Some t ≡ way_target s ending.way) }
+    {
+        match i.operands.as_slice().split_first() {
+            Some((first, _rest)) => self.target(first),
             None => unreachable!(),
         }
     }

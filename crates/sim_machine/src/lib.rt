@@ -8,6 +8,7 @@
 
 pub mod answers;
 mod call;
+mod departure;
 pub mod ending;
 pub mod hart;
 pub mod machine;

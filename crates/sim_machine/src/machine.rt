@@ -3,12 +3,15 @@
 ghost use Rattle.std.specs.Prelude.{◌≡◌, ◌<◌, ◌+◌, ◌*◌, ℕ, Some, None, IfSome, IsSome, IfOk, OnErr};
 ghost use Rattle.std.specs.Prelude.{is_some, length, slice_index};
 ghost use Rattle.mir_func.specs.Objects.{area_of};
+ghost use Rattle.rv64_instr.specs.Row as row;
 ghost use Rattle.sem_machine.specs.Machine.{Machine as State, register, register_in};
+ghost use Rattle.sim_machine.specs.Departures.{left_at, way_target};
 ghost use Rattle.sim_machine.specs.Shown.{entry_at, entry_call};
 ghost use Rattle.sim_machine.specs.Kept.{StandsFor};
 ghost use Rattle.sim_machine.specs.Machines.{StartsCode};
 
 use crate::answers::CallAnswers;
+use crate::departure::leaves_for;
 use crate::ending::{Stepped, Stop};
 use crate::hart::Hart;
 use crate::site::{
@@ -19,7 +22,7 @@ use emit_code::code::{Code, EncodedInstruction};
 use emit_code::objects::ObjectOffsets;
 use rv64_instr::decoded::Callee;
 use rv64_instr::reg::Reg;
-use rv64_instr::start::Start;
+use rv64_instr::start::{CallTarget, Start};
 use rv64_instr::symbol::copy_addresses;
 use sem_interpreter::memory::Memory;
 use std::alloc::{AllocError, Global};
@@ -92,6 +95,15 @@ impl<'a, A: CallAnswers + Drop> MachineSimulator<'a, A> {
         ensures within { IfSome result (λ e. e.address < self.now.code.base + 4 * length self.now.code.words) }
     {
         find(&self.probable, self.code, self.hart.counter)
+    }
+
+    /// What control leaves the function for at the program counter, by a call in tail position or one that doesn't
+    /// return.
+    pub fn leaves_for(&self) -> Result<Option<CallTarget>, AllocError>
+        ensures { IfOk result (λ o. (s : State) (ending : row.Ending row.Callee) → StandsFor self.now.hart s
+            → left_at self.now.code self.now.hart.counter ≡ Some ending → o ≡ way_target s ending.way) }
+    {
+        leaves_for(&self.probable, self.code, &self.hart)
     }
 
     /// Whether an entry's item is a call.

@@ -2,6 +2,7 @@
 use Rattle.std.proofs.Common.{◌≡◌, ℕ, zero, suc, ◌+◌, ◌-◌, ◌<◌, ◌≤◌, ◌%◌, ◌^◌, List, [], ◌∷◌, ◌++◌, length, get_or, refl, sym, ap, ◌∙◌, arith}
 use Rattle.std.proofs.lemmas.List.{append-nil}
 use Rattle.rv64_instr.specs.Linked.{addresses_in}
+use Rattle.rv64_instr.specs.declared.symbol.Symbol.{Symbol}
 use Rattle.rv64_instr.specs.declared.start.CallEvent.{CallEvent}
 use Rattle.rv64_instr.specs.declared.start.Start.{Start}
 use Rattle.sem_mir.specs.State.{Reply, written}
@@ -39,9 +40,10 @@ split_replies values n (suc a) b =
     ap (replies values n) one
     ∙ ap (λ (xs : List Reply). reply_to values n ∷ xs) (split_replies values (suc n) a b ∙ ap (λ (k : ℕ). replies values (suc n) a ++ replies values k b) next)
 
-pub starts : (c : LaidCode) (arguments : List ℕ) (start : Start) (s : Machine) → ((r : ℕ) → r < 32 → get_or start.regs r 0 ≡ start_register arguments r) →
-    start.memory ≡ [] → start.symbols ≡ [] → BeginsRun c arguments s → StartsCode c start s
-starts c arguments start s regs memory symbols b = record {
+pub starts : (c : LaidCode) (addresses : List (Symbol × ℕ)) (arguments : List ℕ) (start : Start) (s : Machine) →
+    ((r : ℕ) → r < 32 → get_or start.regs r 0 ≡ start_register arguments r) →
+    start.memory ≡ [] → start.symbols ≡ addresses → BeginsRun c addresses arguments s → StartsCode c start s
+starts c addresses arguments start s regs memory symbols b = record {
   entry = b.entry ∙ sym (regs 2 (omega arith));
   area = b.area;
   symbols = b.symbols ∙ ap addresses_in (sym symbols);
@@ -61,23 +63,24 @@ starts c arguments start s regs memory symbols b = record {
 with_script : List Reply → Machine → Machine
 with_script script s = record s { script = script }
 
-begins_so : (c : LaidCode) (arguments : List ℕ) (script : List Reply) (s : Machine) → BeginsRun c arguments s → BeginsRun c arguments (with_script script s)
+begins_so : (c : LaidCode) (addresses : List (Symbol × ℕ)) (arguments : List ℕ) (script : List Reply) (s : Machine) → BeginsRun c addresses arguments s →
+    BeginsRun c addresses arguments (with_script script s)
 unfolding with_script
-begins_so c arguments script s b =
+begins_so c addresses arguments script s b =
     record { entry = b.entry; area = b.area; symbols = b.symbols; counter = b.counter; regs = b.regs; memory = b.memory; events = b.events }
 
 script_is : (script : List Reply) (s : Machine) → (with_script script s).script ≡ script
 unfolding with_script
 script_is script s = refl
 
-pub asked : (c : LaidCode) (arguments values : List ℕ) (start : Start) (variables : List Variable) (limit : ℕ) (text : List ℕ) → limit < 2 ^ 32 →
-    ((r : ℕ) → r < 32 → get_or start.regs r 0 ≡ start_register arguments r) → start.memory ≡ [] → start.symbols ≡ [] →
-    IsTextOfRun (Gives values) c start variables limit text → IsTextOfAskedRun c arguments values variables limit text
-asked c arguments values start variables limit text low regs memory symbols h image s shows b script =
+pub asked : (c : LaidCode) (addresses : List (Symbol × ℕ)) (arguments values : List ℕ) (start : Start) (variables : List Variable) (limit : ℕ)
+    (text : List ℕ) → limit < 2 ^ 32 → ((r : ℕ) → r < 32 → get_or start.regs r 0 ≡ start_register arguments r) → start.memory ≡ [] →
+    start.symbols ≡ addresses → IsTextOfRun (Gives values) c start variables limit text → IsTextOfAskedRun c addresses arguments values variables limit text
+asked c addresses arguments values start variables limit text low regs memory symbols h image s shows b script =
     let answers = h.answers in
     let n : ℕ = length answers in
     let s1 = with_script answers s in
-    let first = h.has image s1 [] shows (starts c arguments start s1 regs memory symbols (begins_so c arguments answers s b))
+    let first = h.has image s1 [] shows (starts c addresses arguments start s1 regs memory symbols (begins_so c addresses arguments answers s b))
     (script_is answers s ∙ sym (append-nil answers)) in
     let few : n ≤ limit = first.few in
     let are : answers ≡ replies values 1 n = are_replies values 1 answers (omega (arith, few, low)) first.given in
@@ -85,4 +88,4 @@ asked c arguments values start variables limit text low regs memory symbols h im
     let rest = replies values (1 + n) (limit - n) in
     let split : replies values 1 limit ≡ answers ++ rest =
     ap (replies values 1) whole ∙ (split_replies values 1 n (limit - n) ∙ ap (λ (xs : List Reply). xs ++ rest) (sym are)) in
-    (h.has image s rest shows (starts c arguments start s regs memory symbols b) (script ∙ split)).is
+    (h.has image s rest shows (starts c addresses arguments start s regs memory symbols b) (script ∙ split)).is

@@ -1,6 +1,7 @@
--- The run that the command `run` makes: with given arguments, and given values as the results of calls.
+-- The run that the command `run` makes: with given addresses of symbols, given arguments, and given values as the results of calls.
 use Rattle.std.specs.Prelude.{◌≡◌, ℕ, zero, suc, ◌+◌, ◌-◌, ◌<◌, List, [], ◌∷◌, length, map, cond, ◌&&◌, nat_eq, nat_le, nat_lt, slice_index}
 use Rattle.rv64_instr.specs.Linked.{addresses_in}
+use Rattle.rv64_instr.specs.declared.symbol.Symbol.{Symbol}
 use Rattle.rv64_instr.specs.DefsAndUses.{caller_saved}
 use Rattle.mir_func.specs.Objects.{area_of}
 use Rattle.sem_mir.specs.State.{Reply}
@@ -24,11 +25,11 @@ start_register arguments (suc zero) = 4294967296
 start_register arguments (suc (suc zero)) = 1048576
 start_register arguments (suc (suc (suc r))) = other_register arguments (suc (suc (suc r)))
 
--- The machine is at the start of the code, with these arguments. Memory is 0, and the script is arbitrary.
-pub record BeginsRun (c : LaidCode) (arguments : List ℕ) (s : Machine) : Type 0 where
+-- The machine is at the start of the code, with these addresses of symbols and these arguments. Memory is 0, and the script is arbitrary.
+pub record BeginsRun (c : LaidCode) (addresses : List (Symbol × ℕ)) (arguments : List ℕ) (s : Machine) : Type 0 where
   pub entry : s.entry ≡ 1048576
   pub area : s.area ≡ area_of c.framed.objects
-  pub symbols : s.symbols ≡ addresses_in []
+  pub symbols : s.symbols ≡ addresses_in addresses
   pub counter : s.counter ≡ c.base
   pub regs : (r : ℕ) → r < 32 → register s r ≡ start_register arguments r
   pub memory : (a : ℕ) → s.memory a ≡ 0
@@ -55,9 +56,9 @@ replies values n (suc count) = reply_to values n ∷ replies values (suc n) coun
 
 -- ---- the text
 
--- On each image of the code, the text is that of the machine's run from the start with these arguments, with these values as the results of its
--- calls, for at most `limit` steps.
-abbrev pub IsTextOfAskedRun : LaidCode → (arguments values : List ℕ) → List Variable → (limit : ℕ) → (text : List ℕ) → Type 0
-IsTextOfAskedRun c arguments values variables limit text =
-    (image : Image) (s : Machine) → ShowsCode c image → BeginsRun c arguments s → s.script ≡ replies values 1 limit →
+-- On each image of the code, the text is that of the machine's run from the start with these addresses of symbols and these arguments, with these
+-- values as the results of its calls, for at most `limit` steps.
+abbrev pub IsTextOfAskedRun : LaidCode → (addresses : List (Symbol × ℕ)) → (arguments values : List ℕ) → List Variable → (limit : ℕ) → (text : List ℕ) → Type 0
+IsTextOfAskedRun c addresses arguments values variables limit text =
+    (image : Image) (s : Machine) → ShowsCode c image → BeginsRun c addresses arguments s → s.script ≡ replies values 1 limit →
     IsRunText image variables limit s text

@@ -13,17 +13,17 @@ const RETURN_ADDRESS: u64 = 4_294_967_296;
 /// The content of x2 at the start: the stack pointer.
 const STACK_POINTER: u64 = 1_048_576;
 
-/// The start of a run with arguments, which are in x10 and the registers after it. Memory is 0, and so
-/// are the addresses of symbols. It takes no memory.
-pub fn start_with(alloc: Global, arguments: &[u64]) -> Start
+/// The start of a run with these addresses of symbols, and with arguments, which are in x10 and the registers after it.
+/// Memory is 0. It takes no memory.
+pub fn start_with(alloc: Global, symbols: SymbolAddresses, arguments: &[u64]) -> Start
     ensures regs { (r : ℕ) → r < 32 → slice_index result.regs r ≡ start_register arguments.now r }
     ensures memory { result.memory ≡ [] }
-    ensures symbols { result.symbols ≡ [] }
+    ensures symbols { result.symbols ≡ symbols }
 {
     Start {
         regs: registers(arguments),
         memory: Cells::new(alloc),
-        symbols: SymbolAddresses::new(alloc),
+        symbols,
     }
 }
 

@@ -3,3 +3,4 @@ pub mod Turns
 pub mod Places
 pub mod Listed
 pub mod Lifting
+pub mod Stops

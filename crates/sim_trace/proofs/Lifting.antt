@@ -22,6 +22,7 @@ use Rattle.sim_machine.proofs.Stepping.{line_none, line_some}
 use Rattle.sim_proof.specs.Runs.{WereGiven, next_call}
 use Rattle.sim_proof.proofs.Runs.{given_on, steps_are_the_machines}
 use Rattle.sim_trace.specs.declared.variable.Variable.{Variable}
+use Rattle.sem_machine.specs.MachineStep.{machine_step}
 use Rattle.sim_trace.specs.Lines.{step_line, stop_line}
 use Rattle.sim_trace.specs.Run.{line_at_code, line_before, Prints, makes_steps, stops, HasText, IsTextOfRun}
 use Rattle.sim_trace.specs.Run as run
@@ -125,7 +126,8 @@ module _ (gives : CallEvent → Reply → Type 0) (c : LaidCode) (variables : Li
                 given = q.given;
                 few = omega (arith, q.few, below);
                 is = stops stop below q.prints (stop_made image n stop h now lines more q.to shows q.stands step)
-                    (added q.to still ∙ ap (λ (xs : List ℕ). xs ++ stop_line stop q.to) line);
+                    (added image q.to shows still (stop_made image n stop h now lines more q.to shows q.stands step)
+                    ∙ ap (λ (xs : List ℕ). xs ++ stop_line (machine_step image q.to) q.to) line);
               }),
         )
 

@@ -2,18 +2,19 @@
 use Rattle.std.specs.Prelude.{ℕ, ◌*◌, ◌%◌, ◌^◌, List, [], ◌∷◌, ◌++◌, codes, Option, Some, None}
 use Rattle.std.specs.List.{flat_map}
 use Rattle.std.specs.Fmt.{decimal}
-use Rattle.rv64_instr.specs.declared.decoded.Way.{Way}
-use Rattle.rv64_instr.specs.declared.decoded.Way.TheVariants.{Back, Tail, Never}
+use Rattle.rv64_instr.specs.declared.start.CallTarget.{CallTarget}
+use Rattle.rv64_instr.specs.declared.start.CallTarget.TheVariants.{Function, Address}
+use Rattle.rv64_instr.specs.Row.{Way, Back, Tail, Never}
 use Rattle.mir_func.specs.declared.position.Origin.{Origin}
 use Rattle.dwarf_loclists.specs.declared.range.Part.{Part}
 use Rattle.dwarf_loclists.specs.declared.range.Location.{Location}
 use Rattle.dwarf_loclists.specs.declared.range.Location.TheVariants.{Whole, Parts}
 use Rattle.dwarf_loclists.specs.Ranges.{location_in}
+use Rattle.mir_printer.specs.Spelling.{symbol_text}
 use Rattle.listing_text.specs.Hex.{address_text}
 use Rattle.listing_text.specs.Output.{name_text, origin_text}
 use Rattle.sem_machine.specs.Machine.{Machine, register, place_content}
-use Rattle.sim_machine.specs.declared.ending.Stop.{Stop}
-use Rattle.sim_machine.specs.declared.ending.Stop.TheVariants.{Ended, Left, BadWord}
+use Rattle.sem_machine.specs.MachineStep.{Stepped, Ends, Leaves, BadWord}
 use Rattle.sim_trace.specs.declared.variable.Variable.{Variable}
 
 -- ---- values of variables, with names spelled as in a listing
@@ -67,14 +68,24 @@ step_line n o variables s = head_text n s.counter o ++ variables_text variables 
 abbrev pub return_line : (value : ℕ) → List ℕ
 return_line v = codes "stop returned " ++ decimal v ++ 10 ∷ []
 
--- the last line of a run that ends on this way: if it returns, with the content of x10
-abbrev pub end_line : Way → Machine → List ℕ
-end_line Back s = return_line (register s 10)
-end_line (Tail callee) s = codes "stop tailed\n"
-end_line (Never callee) s = codes "stop gone\n"
+-- what is called: a function by its name, as its symbol prints, or the code at an address
+abbrev pub target_text : CallTarget → List ℕ
+target_text (Function name) = symbol_text name
+target_text (Address a) = decimal a
 
--- how a run stops
-abbrev pub stop_line : Stop → Machine → List ℕ
-stop_line (Ended way) s = end_line way s
-stop_line Left s = codes "stop left\n"
-stop_line (BadWord w) s = codes "stop bad word\n"
+-- the last line of a run that leaves the function so
+abbrev pub left_line : (how : List ℕ) → CallTarget → List ℕ
+left_line how target = how ++ target_text target ++ 10 ∷ []
+
+-- the last line of a run that ends on this way: if it returns, with the content of x10
+abbrev pub end_line : Way CallTarget → Machine → List ℕ
+end_line Back s = return_line (register s 10)
+end_line (Tail target) s = left_line (codes "stop tailed ") target
+end_line (Never target) s = left_line (codes "stop gone ") target
+
+-- how a run stops, by what the machine does where it makes no step
+abbrev pub stop_line : Stepped → Machine → List ℕ
+stop_line (Ends result) s = end_line result.way s
+stop_line Leaves s = codes "stop left\n"
+stop_line BadWord s = codes "stop bad word\n"
+stop_line _ s = []

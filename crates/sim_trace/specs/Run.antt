@@ -35,7 +35,7 @@ pub data IsRunText (image : Image) (variables : List Variable) (limit : ℕ) (fr
   makes_steps : {s : Machine} {lines : List ℕ} → Prints image variables from limit s lines → text ≡ lines ++ codes "stop steps\n" →
       IsRunText image variables limit from text
   stops : {n : ℕ} {s : Machine} {lines : List ℕ} (stop : Stop) → n < limit → Prints image variables from n s lines → StopsSo stop image s →
-      text ≡ lines ++ line_before image n variables s ++ stop_line stop s → IsRunText image variables limit from text
+      text ≡ lines ++ line_before image n variables s ++ stop_line (machine_step image s) s → IsRunText image variables limit from text
 
 -- The text is that of a run with these answers, which were given to its calls in order. There are at most `limit` answers.
 pub record HasText (gives : CallEvent → Reply → Type 0) (image : Image) (variables : List Variable) (limit : ℕ) (answers : List Reply) (from : Machine)

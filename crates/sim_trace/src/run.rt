@@ -1,20 +1,28 @@
 //! The text of a whole run.
 
-ghost use Rattle.std.specs.Prelude.{◌≡◌, ◌+◌, ◌*◌, ◌≤◌, ◌^◌, ◌++◌, [], All, IfOk, OnOk, length, slice_index};
+ghost use Rattle.std.specs.Prelude.{◌≡◌, ◌+◌, ◌*◌, ◌≤◌, ◌^◌, ◌++◌, [], All, IfOk, OnOk, Some};
+ghost use Rattle.std.specs.Prelude.{length, slice_index};
+ghost use Rattle.rv64_instr.specs.declared.start.CallTarget.{CallTarget};
+ghost use Rattle.rv64_instr.specs.Decoded.{ShowsWay};
+ghost use Rattle.rv64_instr.specs.Row as row;
 ghost use Rattle.mir_func.specs.Objects.{area_of};
 ghost use Rattle.dwarf_loclists.specs.Ranges.{Ascend, ArePlaces};
+ghost use Rattle.sem_machine.specs.Machine.{Machine as State};
+ghost use Rattle.sem_machine.specs.MachineStep.{way_at};
+ghost use Rattle.sim_machine.specs.Kept.{StandsFor};
 ghost use Rattle.sim_machine.specs.Shown.{entry_at};
-ghost use Rattle.sim_trace.specs.Lines.{return_line};
+ghost use Rattle.sim_trace.specs.Lines.{end_line, left_line, return_line, target_text};
 ghost use Rattle.sim_trace.specs.Run.{IsTextOfRun};
-ghost use Rattle.sim_trace.specs.steps.Printed.{IsLineAdded, IsPrintedStep, IsRunPrinted, IsStopAdded};
+ghost use Rattle.sim_trace.specs.steps.Printed.{IsFor, IsLineAdded, IsPrintedStep, IsRunPrinted, IsStopAdded};
 ghost use Rattle.sim_trace.specs.steps.Readable.{IsReadable};
 
 use crate::line::push_line;
 use crate::variable::{Variable, Variables};
 use emit_code::code::Code;
+use mir_printer::symbol::push_symbol;
 use mir_printer::text::{Text, push_decimal, push_str};
 use rv64_instr::decoded::Way;
-use rv64_instr::start::Start;
+use rv64_instr::start::{CallTarget, Start};
 use sim_machine::answers::CallAnswers;
 use sim_machine::ending::{Stepped, Stop};
 use sim_machine::hart::Hart;
@@ -60,7 +68,7 @@ fn print_steps<A: CallAnswers + Drop>(
     for n in 0..limit {
         match print_step(text, machine, variables, n)? {
             Stepped::Went => {}
-            Stepped::Stopped(stop) => return push_stop(text, machine.hart(), stop),
+            Stepped::Stopped(stop) => return push_stop(text, machine, stop),
         }
     }
     push_str(text, "stop steps\n")
@@ -103,24 +111,69 @@ fn push_line_before<A: CallAnswers + Drop>(
 }
 
 /// Appends how a run stops.
-fn push_stop(text: &mut Text, hart: &Hart, stop: Stop) -> Result<(), AllocError>
-    ensures { OnOk result (IsStopAdded stop hart.now text.old text.new) }
+fn push_stop<A: CallAnswers + Drop>(
+    text: &mut Text,
+    machine: &MachineSimulator<A>,
+    stop: Stop,
+) -> Result<(), AllocError>
+    ensures { OnOk result (IsStopAdded machine.now.code stop machine.now.hart text.old text.new) }
 {
     match stop {
-        Stop::Ended(way) => push_end(text, hart, way),
+        Stop::Ended(way) => {
+            let target = machine.leaves_for()?;
+            push_end(text, machine.hart(), target, way)
+        }
         Stop::Left => push_str(text, "stop left\n"),
         Stop::BadWord(_) => push_str(text, "stop bad word\n"),
     }
 }
 
-/// Appends on which way a run ends.
-fn push_end(text: &mut Text, hart: &Hart, way: Way) -> Result<(), AllocError>
-    ensures { OnOk result (IsStopAdded (Stop.Ended way) hart.now text.old text.new) }
+/// Appends on which way a run ends, and for what if it leaves for a callee.
+fn push_end(
+    text: &mut Text,
+    hart: &Hart,
+    target: Option<CallTarget>,
+    way: Way,
+) -> Result<(), AllocError>
+    ensures { OnOk result ((s : State) (w : row.Way row.Callee) → StandsFor hart.now s → ShowsWay way w
+        → IsFor s target way w → text.new ≡ text.old ++ end_line (way_at s w) s) }
 {
     match way {
         Way::Back => push_return(text, hart.read(10)),
-        Way::Tail(_) => push_str(text, "stop tailed\n"),
-        Way::Never(_) => push_str(text, "stop gone\n"),
+        Way::Tail(_) => push_left(text, "stop tailed ", target),
+        Way::Never(_) => push_left(text, "stop gone ", target),
+    }
+}
+
+/// Appends how a run leaves the function, and for what, if there is something.
+fn push_left(
+    text: &mut Text,
+    how: &'static str,
+    target: Option<CallTarget>,
+) -> Result<(), AllocError>
+    ensures { OnOk result ((t : CallTarget) → target ≡ Some t → text.new ≡ text.old ++ left_line how.now t) }
+{
+    match target {
+        Some(target) => push_left_line(text, how, &target),
+        None => Ok(()),
+    }
+}
+
+fn push_left_line(text: &mut Text, how: &'static str, target: &CallTarget) -> Result<(), AllocError>
+    ensures { OnOk result (text.new ≡ text.old ++ left_line how.now target.now) }
+{
+    push_str(text, how)?;
+    push_target(text, target)?;
+    text.push(b'\n')
+}
+
+/// Appends what is called.
+fn push_target(text: &mut Text, target: &CallTarget) -> Result<(), AllocError>
+    ensures { OnOk result (text.new ≡ text.old ++ target_text target.now) }
+{
+    match target {
+        CallTarget::Function(name) => push_symbol(text, name.as_slice()),
+        CallTarget::Address(a) => push_decimal(text, *a),
     }
 }
 

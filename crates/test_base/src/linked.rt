@@ -96,16 +96,16 @@ fn addresses(alloc: Global, pairs: &[(Of, u64)]) -> Option<SymbolAddresses> {
     Some(symbols)
 }
 
-/// A symbol, a number of bytes, and their address. A symbol without one is at 0, and addresses wrap.
+/// A symbol, a number of bytes, and their address. A symbol without one has one by its name, and addresses wrap.
 const ADDRESSES: &[(Of, i32, u64)] = &[
     (Name("g"), 0, 0x1234_5fff),
     (Name("g"), -0x1234_6000, u64::MAX),
     (Name("gg"), 4, 5),
-    (Name("h"), 5, 5),
-    (Name(""), -1, u64::MAX),
+    (Name("h"), 5, 0x1068_0005),
+    (Name(""), -1, 0xfff_ffff),
     (Pool(7), i32::MAX, 0x8000_0fff),
     (Pool(0), 0, 8192),
-    (Pool(1), i32::MIN, 0xffff_ffff_8000_0000),
+    (Pool(1), i32::MIN, 0xffff_ffff_952e_0000),
 ];
 
 /// Whether a symbol's address, and that of its copy among copied symbols, is this.

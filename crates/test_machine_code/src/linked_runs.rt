@@ -109,12 +109,8 @@ fn symbols(alloc: Global) -> Result<SymbolAddresses, Fail> {
 fn start(alloc: Global, arguments: &[u64]) -> Result<Start, Fail> {
     let symbols = symbols(alloc)?;
     let memory = Cells::from_slice(alloc, CELLS)?;
-    let begun = start_with(alloc, arguments);
-    Ok(Start {
-        memory,
-        symbols,
-        ..begun
-    })
+    let begun = start_with(alloc, symbols, arguments);
+    Ok(Start { memory, ..begun })
 }
 
 /// Whether a function has one short block, no slot, and small numbers. Then the pass has room.

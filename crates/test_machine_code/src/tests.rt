@@ -66,7 +66,7 @@ pub(crate) fn code(alloc: Global, text: &[u8]) -> Result<Code, Fail> {
     if 16_777_216 < text.len() {
         return Err(Fail::from("a long text"));
     }
-    let program = read_program(alloc, text)?;
+    let program = read_program(alloc, false, text)?;
     let parsed = program.functions.as_slice().first().ok_or("a function")?;
     Ok(code_of(alloc, &parsed.func, 0)?)
 }

@@ -63,7 +63,7 @@ pub fn function_of(alloc: Global, text: &str) -> Result<Parsed, Fail> {
     if 10_000 < bytes.len() {
         return Err(Fail::from("a long text"));
     }
-    let mut functions = read_program(alloc, bytes)?.functions.into_vec();
+    let mut functions = read_program(alloc, false, bytes)?.functions.into_vec();
     Ok(functions.pop().ok_or("a function")?)
 }
 

@@ -39,7 +39,7 @@ body: |
 fn functions_are_printed_as_they_are_read(rt: HostRuntime) -> Result<(), Fail> {
     for text in TEXTS {
         assert!(rt; text.len() < 1_000);
-        let program = read_program(rt.alloc(), text.as_bytes())?;
+        let program = read_program(rt.alloc(), false, text.as_bytes())?;
         assert_eq!(rt; program.functions.len(), 1);
         for parsed in program.functions.as_slice() {
             let printed = print_func(rt.alloc(), &parsed.func, &parsed.subs)?;

@@ -97,7 +97,7 @@ fn instances_have_their_parents_and_ranges(rt: HostRuntime) -> Result<(), Fail> 
     ranges_ascend();
     each_call_has_an_instance();
     assert!(rt; TEXT.len() < 1000);
-    let program = read_program(rt.alloc(), TEXT.as_bytes())?;
+    let program = read_program(rt.alloc(), false, TEXT.as_bytes())?;
     let parsed = program.functions.as_slice().first().ok_or("a function")?;
     assert!(rt; has_instances(rt.alloc(), parsed, &program.meta)?);
     Ok(())

@@ -90,7 +90,7 @@ fn a_return_has_a_layout_and_values(rt: HostRuntime) -> Result<(), Fail> {
     one_reading();
     listings_are_printable();
     assert!(rt; RETURN.len() < 100);
-    let program = read_program(rt.alloc(), RETURN.as_bytes())?;
+    let program = read_program(rt.alloc(), false, RETURN.as_bytes())?;
     let parsed = program.functions.as_slice().first().ok_or("a function")?;
     assert!(rt; has_layout_and_values(rt.alloc(), parsed)?);
     Ok(())

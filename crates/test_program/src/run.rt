@@ -9,7 +9,7 @@ use base_io::memory_source::MemorySource;
 use base_io::std_sink::StdSink;
 use base_io::std_source::StdSource;
 use std::alloc::{AllocError, Global};
-use tool_driver::driver::mirdwarf;
+use tool_host::driver::mirdwarf;
 
 /// How many runs came out as written, and how many others there are.
 #[derive(Clone, Copy, Default)]

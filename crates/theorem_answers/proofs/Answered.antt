@@ -1,17 +1,18 @@
 -- Nothing refuses the program of a generated function: its frame and its sections are within their limits, and `compile` asks for no more
 -- without `.debug_frame`.
-use Rattle.std.proofs.Common.{◌≢◌, ℕ, ◌≤◌, [], length, refl, ap, arith}
+use Rattle.std.proofs.Common.{◌≢◌, ℕ, ◌≤◌, Bool, false, [], Ok, length, refl, ap, sym, subst, arith}
 use Rattle.cli.specs.declared.command.PassPipeline.{PassPipeline}
 use Rattle.cli.specs.declared.command.Command.TheVariants.{Strip}
 use Rattle.cli.specs.declared.fault.Fault.{Fault}
 use Rattle.mir_func_printer.specs.FuncText.{func_text}
 use Rattle.read_program.specs.declared.program.Program.{Program}
+use Rattle.read_program.specs.Program.{ReadsText}
 use Rattle.gen_function.specs.Generator.{generated}
 use Rattle.gen_text.specs.GeneratedText.{generated_text}
 use Rattle.gen_program.specs.Program.{generated_program}
-use Rattle.gen_sizes.proofs.Frames.{generated_frames_are_small}
-use Rattle.gen_sizes.proofs.Registers.{generated_have_registers}
-use Rattle.gen_sizes.proofs.Sections.{generated_sections_are_small}
+use Rattle.tool_driver.proofs.Frames.{generated_frames_are_small}
+use Rattle.tool_driver.proofs.Registers.{generated_have_registers}
+use Rattle.tool_driver.proofs.Sections.{generated_sections_are_small}
 use Rattle.tool_driver.specs.Refusals.{RefusesProgram, unknown_function, no_register, frame_too_large, section_too_large}
 use Rattle.tool_driver.specs.Refusals.{frame_section_too_large, inlined_section_too_large, object_too_large, no_symbol_name, answers}
 use Rattle.tool_driver.specs.Limits.{INPUT_LIMIT}
@@ -53,13 +54,13 @@ limited : (n : ℕ) → n ≤ 2097152 → n ≤ INPUT_LIMIT
 limited n short = omega (arith, short)
 
 pub documents_are_answerable : GeneratedDocumentsAreAnswerable
-documents_are_answerable number count plan some few =
+documents_are_answerable number count plan plain some few =
     let text = func_text (generated number count) [] in
     texts_are_answerable number count plan text some few (limited (length text) (generated_texts_are_short number count few).document)
-    (generated_documents_are_read number count some few)
+    (subst (λ (linked : Bool). ReadsText linked text (Ok (generated_program number count))) (sym plain) (generated_documents_are_read number count some few))
 
 -- nothing refuses a program that is stripped
-none_stripped : {fault : Fault} (program : Program) → RefusesProgram Strip program fault → ⊥
+none_stripped : {fault : Fault} (program : Program) → RefusesProgram (Strip false) program fault → ⊥
 none_stripped program (unknown_function run same unknown) = absurd cc
 none_stripped program (no_register plan same named virtual) = absurd cc
 none_stripped program (frame_too_large plan same named registers large) = absurd cc

@@ -1,5 +1,5 @@
 -- The statements of the theorems on what is answered.
-use Rattle.std.specs.Prelude.{ℕ, ◌≤◌, false, List, [], length, Some, Ok}
+use Rattle.std.specs.Prelude.{◌≡◌, ℕ, ◌≤◌, false, List, [], length, Some, Ok}
 use Rattle.mir_func_printer.specs.FuncText.{func_text}
 use Rattle.read_program.specs.Program.{ReadsText}
 use Rattle.cli.specs.declared.command.Command.{Command}
@@ -20,16 +20,16 @@ abbrev pub GeneratedProgramsAreAnswered : Type 0
 GeneratedProgramsAreAnswered = (number count : ℕ) (plan : PassPipeline) → 1 ≤ count → count ≤ 512 →
     IsAnswered (compile_by plan) (generated_program number count)
 
--- A text within the limit that is read as the program of a generated function can be answered.
+-- A text within the limit that is read as the program of a generated function, in the language that the plan reads, can be answered.
 abbrev pub GeneratedTextsAreAnswerable : Type 0
 GeneratedTextsAreAnswerable = (number count : ℕ) (plan : PassPipeline) (text : List ℕ) → 1 ≤ count → count ≤ 512 → length text ≤ INPUT_LIMIT →
-    ReadsText text (Ok (generated_program number count)) → IsAnswerable (compile_by plan) (Some text)
+    ReadsText plan.linked text (Ok (generated_program number count)) → IsAnswerable (compile_by plan) (Some text)
 
--- The document of a generated function can be compiled, by any passes.
+-- The document of a generated function can be compiled, by any passes, where the linked language isn't read.
 abbrev pub GeneratedDocumentsAreAnswerable : Type 0
-GeneratedDocumentsAreAnswerable = (number count : ℕ) (plan : PassPipeline) → 1 ≤ count → count ≤ 512 →
+GeneratedDocumentsAreAnswerable = (number count : ℕ) (plan : PassPipeline) → plan.linked ≡ false → 1 ≤ count → count ≤ 512 →
     IsAnswerable (compile_by plan) (Some (func_text (generated number count) []))
 
 -- What `gen` writes can be stripped.
 abbrev pub GeneratedTextsAreStripped : Type 0
-GeneratedTextsAreStripped = (number count : ℕ) → 1 ≤ count → count ≤ 512 → IsAnswerable Strip (Some (generated_text number count))
+GeneratedTextsAreStripped = (number count : ℕ) → 1 ≤ count → count ≤ 512 → IsAnswerable (Strip false) (Some (generated_text number count))

@@ -45,20 +45,20 @@ closed_part n (t ∷ ts) rest all =
     ∙ closed_part (n + 1) ts rest (All-tail GoesOn t ts all)
 
 passed_part : (had : Bool) (n : ℕ) (texts rest : List (List ℕ)) →
-    documents_from (suc (length (lines_from n texts))) had (lines_from n (texts ++ codes "..." ∷ rest))
-    ≡ documents_from 0 had (lines_from (n + length texts + 1) rest)
+    documents_from false (suc (length (lines_from n texts))) had (lines_from n (texts ++ codes "..." ∷ rest))
+    ≡ documents_from false 0 had (lines_from (n + length texts + 1) rest)
 unfolding documents_from
-passed_part had n [] rest = ap (λ (k : ℕ). documents_from 0 had (lines_from k rest)) (let e : n + 1 ≡ n + 0 + 1 = omega arith in e)
+passed_part had n [] rest = ap (λ (k : ℕ). documents_from false 0 had (lines_from k rest)) (let e : n + 1 ≡ n + 0 + 1 = omega arith in e)
 passed_part had n (t ∷ ts) rest =
     passed_part had (n + 1) ts rest
-    ∙ ap (λ (k : ℕ). documents_from 0 had (lines_from k rest)) (let e : n + 1 + length ts + 1 ≡ n + suc (length ts) + 1 = omega arith in e)
+    ∙ ap (λ (k : ℕ). documents_from false 0 had (lines_from k rest)) (let e : n + 1 + length ts + 1 ≡ n + suc (length ts) + 1 = omega arith in e)
 
 -- the documents behind such a part
 behind_part : (had : Bool) (n : ℕ) (texts rest : List (List ℕ)) → All GoesOn texts →
-    documents_from (suc (length (inside (lines_from n (texts ++ codes "..." ∷ rest))))) had (lines_from n (texts ++ codes "..." ∷ rest))
-    ≡ documents_from 0 had (lines_from (n + length texts + 1) rest)
+    documents_from false (suc (length (inside (lines_from n (texts ++ codes "..." ∷ rest))))) had (lines_from n (texts ++ codes "..." ∷ rest))
+    ≡ documents_from false 0 had (lines_from (n + length texts + 1) rest)
 behind_part had n texts rest all =
-    ap (λ (ls : List Line). documents_from (suc (length ls)) had (lines_from n (texts ++ codes "..." ∷ rest))) (inside_part n texts rest all)
+    ap (λ (ls : List Line). documents_from false (suc (length ls)) had (lines_from n (texts ++ codes "..." ∷ rest))) (inside_part n texts rest all)
     ∙ passed_part had n texts rest
 
 -- ---- documents without a line that opens the block
@@ -73,9 +73,9 @@ NoBlockLine line = NoBlock line.text
 abbrev from_line : Line → List Line → (had opens : Bool) → (here block behind : Documents) → Documents
 from_line line ls had opens here block behind =
     cond (is_passed line.text) here
-    (cond opens (cond had (stops line.number) block) (cond (opens_function line.text) (function_from line.number ls behind) (stops line.number)))
+    (cond opens (cond had (stops line.number) block) (cond (opens_function line.text) (function_from false line.number ls behind) (stops line.number)))
 
-same_behind : (ls : List Line) → All NoBlockLine ls → (skipped : ℕ) → documents_from skipped true ls ≡ documents_from skipped false ls
+same_behind : (ls : List Line) → All NoBlockLine ls → (skipped : ℕ) → documents_from false skipped true ls ≡ documents_from false skipped false ls
 unfolding documents_from
 same_behind [] all zero = refl
 same_behind [] all (suc k) = refl
@@ -84,10 +84,10 @@ same_behind (line ∷ ls) all zero =
     let none = All-head NoBlockLine line ls all in
     let here = same_behind ls (All-tail NoBlockLine line ls all) 0 in
     let behind = same_behind ls (All-tail NoBlockLine line ls all) (suc (length (inside ls))) in
-    let block : Documents = block_from line.number ls (documents_from (suc (length (inside ls))) true ls) in
-    ap (λ (b : Bool). from_line line ls true b (documents_from 0 true ls) block (documents_from (suc (length (inside ls))) true ls)) none
+    let block : Documents = block_from line.number ls (documents_from false (suc (length (inside ls))) true ls) in
+    ap (λ (b : Bool). from_line line ls true b (documents_from false 0 true ls) block (documents_from false (suc (length (inside ls))) true ls)) none
     ∙ (λ i. from_line line ls true false (here i) block (behind i))
-    ∙ ap (λ (b : Bool). from_line line ls false b (documents_from 0 false ls) block (documents_from (suc (length (inside ls))) false ls)) (sym none)
+    ∙ ap (λ (b : Bool). from_line line ls false b (documents_from false 0 false ls) block (documents_from false (suc (length (inside ls))) false ls)) (sym none)
 
 no_block_lines : (n : ℕ) (texts : List (List ℕ)) → All NoBlock texts → All NoBlockLine (lines_from n texts)
 no_block_lines n [] all = All-nil NoBlockLine
@@ -196,17 +196,17 @@ but_first (d ∷ ds) = ds
 -- the function at the first line, whose inner lines are these
 abbrev function_with : (ls : List Line) (closed : Bool) (last : ℕ) → Documents → Documents
 function_with ls closed last others =
-    fault_or (first_fault [] ls)
+    fault_or (first_fault false [] ls)
     (cond (is_complete ls)
-    (cond closed (record others { functions = function_document 1 ls (1 + length ls + 1) ∷ others.functions }) (stops last)) (stops 1))
+    (cond closed (record others { functions = function_document false 1 ls (1 + length ls + 1) ∷ others.functions }) (stops last)) (stops 1))
 
-first_function : (rest : List Line) → documents_from 0 false (line_at 1 (codes "---") ∷ rest)
-    ≡ function_with (inside rest) (is_closed rest) (1 + length rest) (documents_from (suc (length (inside rest))) false rest)
+first_function : (rest : List Line) → documents_from false 0 false (line_at 1 (codes "---") ∷ rest)
+    ≡ function_with (inside rest) (is_closed rest) (1 + length rest) (documents_from false (suc (length (inside rest))) false rest)
 unfolding documents_from opens_block opens_function function_from
 first_function rest = refl
 
 nine_taken : (last : ℕ) (others : Documents) → function_with (lines_from 2 inner) true last others
-    ≡ record others { functions = function_document 1 (lines_from 2 inner) 9 ∷ others.functions }
+    ≡ record others { functions = function_document false 1 (lines_from 2 inner) 9 ∷ others.functions }
 unfolding first_fault is_fault heading opens_block opens_function
 nine_taken last others = refl
 
@@ -218,19 +218,19 @@ module _ (d : Document) (is : IsDocument d) where
   rest = lines_from 2 (inner ++ codes "..." ∷ texts)
 
   abbrev tenth : Documents
-  tenth = documents_from 0 false (lines_from 10 texts)
+  tenth = documents_from false 0 false (lines_from 10 texts)
 
-  both_found : documents_from 0 false (lines_from 1 (flat_map document_lines (nine ∷ d ∷ [])))
+  both_found : documents_from false 0 false (lines_from 1 (flat_map document_lines (nine ∷ d ∷ [])))
       ≡ record { meta = []; functions = document_at 1 nine ∷ document_at 10 d ∷ []; bad = None }
   unfolding documents_at
   both_found =
       let printed : All IsLine (flat_map document_lines (nine ∷ d ∷ [])) =
       All-append IsLine (document_lines nine) texts nine_is.printed (All-append IsLine (document_lines d) [] is.printed (All-nil IsLine)) in
-      ap (documents_from 0 false) (sym (lines_are (flat_map document_lines (nine ∷ d ∷ [])) printed))
+      ap (documents_from false 0 false) (sym (lines_are (flat_map document_lines (nine ∷ d ∷ [])) printed))
       ∙ documents_read_back (nine ∷ d ∷ []) (All-cons IsDocument nine (d ∷ []) nine_is (All-cons IsDocument d [] is (All-nil IsDocument)))
 
-  first_found : documents_from 0 false (line_at 1 (codes "---") ∷ rest)
-      ≡ record tenth { functions = function_document 1 (lines_from 2 inner) 9 ∷ tenth.functions }
+  first_found : documents_from false 0 false (line_at 1 (codes "---") ∷ rest)
+      ≡ record tenth { functions = function_document false 1 (lines_from 2 inner) 9 ∷ tenth.functions }
   first_found =
       let ins = inside_part 2 inner texts inner_goes_on in
       let closes = closed_part 2 inner texts inner_goes_on in
@@ -239,7 +239,7 @@ module _ (d : Document) (is : IsDocument d) where
       ∙ (λ i. function_with (ins i) (closes i) (1 + length rest) (behind i))
       ∙ nine_taken (1 + length rest) tenth
 
-  same : record tenth { functions = function_document 1 (lines_from 2 inner) 9 ∷ tenth.functions }
+  same : record tenth { functions = function_document false 1 (lines_from 2 inner) 9 ∷ tenth.functions }
       ≡ record { meta = []; functions = document_at 1 nine ∷ document_at 10 d ∷ []; bad = None }
   same = sym first_found ∙ both_found
 
@@ -251,10 +251,10 @@ module _ (d : Document) (is : IsDocument d) where
       λ i. record { meta = meta i; functions = functions i; bad = bad i }
 
   -- behind a block
-  pub tenth_behind : documents_from 0 true (lines_from 10 (document_lines d)) ≡ record { meta = []; functions = document_at 10 d ∷ []; bad = None }
+  pub tenth_behind : documents_from false 0 true (lines_from 10 (document_lines d)) ≡ record { meta = []; functions = document_at 10 d ∷ []; bad = None }
   tenth_behind =
       same_behind (lines_from 10 (document_lines d)) (no_block_lines 10 (document_lines d) (document_opens_none d is)) 0
-      ∙ ap (λ (ts : List (List ℕ)). documents_from 0 false (lines_from 10 ts)) (sym (append-nil (document_lines d)))
+      ∙ ap (λ (ts : List (List ℕ)). documents_from false 0 false (lines_from 10 ts)) (sym (append-nil (document_lines d)))
       ∙ tenth_is
 
 -- ---- the block
@@ -264,14 +264,14 @@ abbrev block_with : (ls : List Line) (closed : Bool) (last : ℕ) → Documents 
 block_with ls closed last others =
     cond closed (record others { meta = ls ++ others.meta }) (record { meta = ls; functions = []; bad = Some last })
 
-first_block : (ls : List Line) → documents_from 0 false (line_at 1 (codes "--- |") ∷ ls)
-    ≡ block_with (inside ls) (is_closed ls) (1 + length ls) (documents_from (suc (length (inside ls))) true ls)
+first_block : (ls : List Line) → documents_from false 0 false (line_at 1 (codes "--- |") ∷ ls)
+    ≡ block_with (inside ls) (is_closed ls) (1 + length ls) (documents_from false (suc (length (inside ls))) true ls)
 unfolding documents_from opens_block block_from
 first_block ls = refl
 
 -- a block of seven lines, and a document behind it
 pub documents_behind : (block : List (List ℕ)) (d : Document) → IsDocument d → All IsLine block → All GoesOn block → length block ≡ 7 →
-    documents_of (text_of_lines (codes "--- |" ∷ (block ++ codes "..." ∷ document_lines d)))
+    documents_of false (text_of_lines (codes "--- |" ∷ (block ++ codes "..." ∷ document_lines d)))
     ≡ record { meta = lines_from 2 block; functions = document_at 10 d ∷ []; bad = None }
 documents_behind block d is printed goes seven =
     let behind = block ++ codes "..." ∷ document_lines d in
@@ -283,9 +283,9 @@ documents_behind block d is printed goes seven =
     let ins = inside_part 2 block (document_lines d) goes in
     let closes = closed_part 2 block (document_lines d) goes in
     let others = behind_part true 2 block (document_lines d) goes
-    ∙ ap (λ (k : ℕ). documents_from 0 true (lines_from (2 + k + 1) (document_lines d))) seven
+    ∙ ap (λ (k : ℕ). documents_from false 0 true (lines_from (2 + k + 1) (document_lines d))) seven
     ∙ tenth_behind d is in
-    ap (documents_from 0 false) (lines_are (codes "--- |" ∷ behind) lines)
+    ap (documents_from false 0 false) (lines_are (codes "--- |" ∷ behind) lines)
     ∙ first_block ls
     ∙ (λ i. block_with (ins i) (closes i) (1 + length ls) (others i))
     ∙ ap (λ (meta : List Line). record { meta = meta; functions = document_at 10 d ∷ []; bad = None }) (append-nil (lines_from 2 block))

@@ -1,5 +1,5 @@
 -- The document of a generated function is read as the function, whatever metadata is given.
-use Rattle.std.proofs.Common.{◌≡◌, ℕ, zero, suc, ◌+◌, ◌<◌, ◌≤◌, List, [], ◌∷◌, map, None, Result, Ok, Bool, true, false, ◌||◌}
+use Rattle.std.proofs.Common.{◌≡◌, ℕ, zero, suc, ◌+◌, ◌<◌, ◌≤◌, List, [], ◌∷◌, map, None, Result, Ok, Bool, true, false, ◌&&◌, ◌||◌}
 use Rattle.std.proofs.Common.{refl, sym, ap, ◌∙◌, subst, eqb, eq-eqb, lit<, lit≤, arith}
 use Rattle.std.specs.Prelude.{IfSome, Contains, codes, is_some}
 use Rattle.std.specs.List.{All, list_all, list_any}
@@ -37,9 +37,11 @@ use Rattle.read_body.specs.FirstUseOrder.{is_met}
 use Rattle.read_program.specs.declared.closing.Parsed.{Parsed}
 use Rattle.read_program.specs.declared.error.ParseError.{ParseError}
 use Rattle.read_program.specs.BodyLines.{body_of}
+use Rattle.read_program.specs.Pool.{are_known}
 use Rattle.read_program.specs.Closing.{ids_behind, entry_ids, laid_out, stays, parts_of, closing_cause, function_of, EndWell, ParsesParts, Parses}
 use Rattle.read_program.specs.Limited.{KindIsLimited, LocIsLimited}
 use Rattle.read_program.specs.Objects.{kind_stays, item_as, blocks_as, block_stays, blocks_stay}
+use Rattle.read_program.proofs.KnownConstants.{plain_known}
 use Rattle.read_program.proofs.Bodies.{IsReadBlock}
 use Rattle.read_program.proofs.Entries.{ids_are_objects}
 use Rattle.read_proof.specs.Read.{IsReadFunction}
@@ -63,7 +65,8 @@ use Rattle.readback_functions.proofs.FunctionCodes.{KnownKind}
 use Rattle.readback_functions.proofs.Functions.{both_items, weaker_items, texts_are, parts_some, no_cause, no_fixed}
 use Rattle.theorem_print_read_back.proofs.Texts.{document_of}
 use Rattle.theorem_print_read_back.proofs.Bodies.{blocks_go, kind_declared, blocks_again}
-use Rattle.theorem_gen_text.proofs.Items.{upto, length_upto, SLOTS, kind_plain, known_made, named_made, bytes_made, readable_made, number_made, HasLow}
+use Rattle.theorem_gen_text.proofs.Items.{upto, length_upto, SLOTS, kind_plain, known_made, language_made, named_made, bytes_made, readable_made, number_made}
+use Rattle.theorem_gen_text.proofs.Items.{HasLow}
 use Rattle.theorem_gen_text.proofs.Items.{low_constant}
 use Rattle.theorem_gen_text.proofs.Items.{VARIABLES, variable_made, names_none, stays_made}
 use Rattle.theorem_gen_text.proofs.Phis.{PhiIsKept, phis_are_kept}
@@ -178,7 +181,7 @@ module _ (meta : Maps) (number count : ℕ) (some : 1 ≤ count) (few : count �
       (λ i w. record {
         made = w.0.made;
         absent = w.0.absent;
-        known = known_made w.0.made w.1.0.0 w.1.0.1.0 w.1.1.0;
+        known = known_made w.0.made w.1.0.0 w.1.0.1.0 (language_made w.0.made) w.1.1.0;
         kept = w.1.1.1;
         limited = w.1.0.1;
       }) bs
@@ -201,7 +204,7 @@ module _ (meta : Maps) (number count : ℕ) (some : 1 ≤ count) (few : count �
 
   readable : All (IsReadableItem meta) (items_of bs)
   readable = of_good (IsReadableItem meta) (λ i g. record {
-    writable = record { kind = g.limited.0; loc = g.limited.1; names = bytes_made g.made };
+    writable = record { kind = g.limited.0; language = language_made g.made; loc = g.limited.1; names = bytes_made g.made };
     readable = subst (λ (l : Loc). IsReadable meta l i.kind) (sym g.absent) (readable_made meta g.made g.known g.kept);
   })
 
@@ -293,7 +296,7 @@ module _ (meta : Maps) (number count : ℕ) (some : 1 ≤ count) (few : count �
       ∙ blocks_again [] SLOTS ids same_ids Any bs read_blocks knows ∙ plain
 
   abbrev declares : Declarations
-  declares = record { name = codes "gen"; stack = ENTRIES; substitutions = [] }
+  declares = record { name = codes "gen"; stack = ENTRIES; substitutions = []; pool = [] }
 
   same_function : function_of declares body ≡ f
   same_function = λ i. record { name = codes "gen"; slots = slots i; objects = objects i; blocks = blocks i }
@@ -302,8 +305,8 @@ module _ (meta : Maps) (number count : ℕ) (some : 1 ≤ count) (few : count �
   are_declared =
       let name = names_read_back (n + 1) (codes "gen") gen_bytes in
       let stack = stacks_read_back (n + 2) SLOTS [] declared.each declared.several declared.apart declared.few in
-      λ i. checked (earlier (earlier (name i).refused (stack i).refused) (earlier (no_fixed i) (no_substitutions i).refused))
-      (record { name = (name i).name; stack = (stack i).entries; substitutions = (no_substitutions i).entries })
+      λ i. checked (earlier (earlier (earlier (name i).refused (stack i).refused) (earlier (no_fixed i) (no_substitutions i).refused)) None)
+      (record { name = (name i).name; stack = (stack i).entries; substitutions = (no_substitutions i).entries; pool = [] })
 
   -- ---- its close
 
@@ -337,9 +340,13 @@ module _ (meta : Maps) (number count : ℕ) (some : 1 ≤ count) (few : count �
   accesses = parts_some (stays (laid_out body.objects ENTRIES (blocks_of body))) (laid_out body.objects ENTRIES (blocks_of body))
       ∙ ((λ i. blocks_stay (objects i) (blocks i)) ∙ stay)
 
+  constants : are_known [] (blocks_of body) ≡ true
+  constants = plain_known meta doc.body body reads.read []
+
   none : closing_cause declares body ≡ None
   none = no_cause (blocks_go_to body.ids (blocks_of body)) (all_met (entry_ids ENTRIES) body.entries)
-      (is_some (parts_of body.objects ENTRIES (blocks_of body))) branches all_entries accesses
+      (are_known [] (blocks_of body) && is_some (parts_of body.objects ENTRIES (blocks_of body))) branches all_entries
+      (and_from (are_known [] (blocks_of body)) (is_some (parts_of body.objects ENTRIES (blocks_of body))) constants accesses)
 
   ends : EndWell (function_of declares body).blocks
   ends = subst EndWell (sym blocks) (read.sound.ends, read.sound.last)
@@ -347,11 +354,11 @@ module _ (meta : Maps) (number count : ℕ) (some : 1 ≤ count) (few : count �
   pub function_read : Parses meta doc (Ok (record { func = f; subs = [] }))
   function_read =
       let answer : Result Parsed ParseError = Ok (record { func = f; subs = [] }) in
-      subst (λ (r : Result Declarations Refusal). ParsesParts doc.closed r (body_of meta doc.body) answer) (sym are_declared)
+      subst (λ (r : Result Declarations Refusal). ParsesParts doc.closed r (body_of false meta doc.body) answer) (sym are_declared)
       (subst (λ (r : Result Body Refusal). ParsesParts doc.closed (Ok declares) r answer) (sym reads.read) (none, sym same_function, refl, ends))
 
   pub all_writable : All IsWritable (items_of bs)
-  all_writable = of_good IsWritable (λ i g. record { kind = g.limited.0; loc = g.limited.1; names = bytes_made g.made })
+  all_writable = of_good IsWritable (λ i g. record { kind = g.limited.0; language = language_made g.made; loc = g.limited.1; names = bytes_made g.made })
 
   pub small_ids : All (λ (b : Block). b.id ≤ MAX_NUMBER) bs
   small_ids = read.ids

@@ -22,7 +22,7 @@ use Rattle.mir_func.specs.Sound.{HasForm, LeavesPointer, number_of}
 use Rattle.read_item.specs.Code.{MAX_OPERANDS}
 use Rattle.read_body.specs.Body.{constant_of, object_named}
 use Rattle.read_body.specs.FirstUseOrder.{is_met}
-use Rattle.read_program.specs.Limited.{KindIsLimited}
+use Rattle.read_program.specs.Limited.{KindIsLimited, IsOperandOf, IsOfLanguage}
 use Rattle.read_program.specs.Objects.{operand_as, operands_as, instr_as, kind_as, kind_stays}
 use Rattle.read_program.proofs.Items.{KindNamesAmong}
 use Rattle.read_program.proofs.Operands.{NamesAmong}
@@ -128,30 +128,44 @@ kind_plain returns = ap (λ (i : Instruction). Code i None) (instr_plain _)
 
 -- ---- what is known of code
 
-code_known : (c : Instruction) (k : Option ℕ) → HasForm (Code c k) → KindIsLimited (Code c k) → LeavesPointer (Code c k) →
+code_known : (c : Instruction) (k : Option ℕ) → HasForm (Code c k) → KindIsLimited (Code c k) → IsOfLanguage false (Code c k) → LeavesPointer (Code c k) →
     map as_slot c.operands ≡ c.operands → All (NamesAmong SLOTS) c.operands → length c.operands ≤ MAX_OPERANDS → IsKnownCode SLOTS c
-code_known c k form limited pointer same named few = record {
+code_known c k form limited language pointer same named few = record {
   again = λ ids. judged_again ids c.op c.operands form same;
   form = form;
   limited = limited.0;
+  language = language.0;
   named = named;
   pointer = pointer;
   few = few;
-  read = limited.2;
+  read = language.1;
 }
 
-pub known_made : {kind : ItemKind} → IsMade TOP kind → HasForm kind → KindIsLimited kind → LeavesPointer kind → KnownKind SLOTS kind
-known_made (adds rd rs rt k a b c l) f m p = code_known _ (Some k) f m p refl (three (NamesAmong SLOTS) _ _ _ tt tt tt) (lit≤ tt)
-known_made (copies rd rs k a b l) f m p = code_known _ (Some k) f m p refl (two (NamesAmong SLOTS) _ _ tt tt) (lit≤ tt)
-known_made gives f m p = code_known _ None f m p refl (two (NamesAmong SLOTS) _ _ tt tt) (lit≤ tt)
-known_made (sets rd n k a l q) f m p = code_known _ (Some k) f m p refl (three (NamesAmong SLOTS) _ _ _ tt tt tt) (lit≤ tt)
-known_made (stores rs n a l) f m p = code_known _ None f m p refl (three (NamesAmong SLOTS) _ _ _ tt (slot_met n l) tt) (lit≤ tt)
-known_made (loads rd n k a l q) f m p = code_known _ (Some k) f m p refl (three (NamesAmong SLOTS) _ _ _ tt (slot_met n l) tt) (lit≤ tt)
-known_made (phis rs k a l) f m p = tt
-known_made (marks n k l q) f m p = tt
-known_made (branches rs n a l) f m p = code_known _ None f m p refl (three (NamesAmong SLOTS) _ _ _ tt tt tt) (lit≤ tt)
-known_made (jumps n l) f m p = code_known _ None f m p refl (one (NamesAmong SLOTS) _ tt) (lit≤ tt)
-known_made returns f m p = code_known _ None f m p refl (one (NamesAmong SLOTS) _ tt) (lit≤ tt)
+pub known_made : {kind : ItemKind} → IsMade TOP kind → HasForm kind → KindIsLimited kind → IsOfLanguage false kind → LeavesPointer kind → KnownKind SLOTS kind
+known_made (adds rd rs rt k a b c l) f m g p = code_known _ (Some k) f m g p refl (three (NamesAmong SLOTS) _ _ _ tt tt tt) (lit≤ tt)
+known_made (copies rd rs k a b l) f m g p = code_known _ (Some k) f m g p refl (two (NamesAmong SLOTS) _ _ tt tt) (lit≤ tt)
+known_made gives f m g p = code_known _ None f m g p refl (two (NamesAmong SLOTS) _ _ tt tt) (lit≤ tt)
+known_made (sets rd n k a l q) f m g p = code_known _ (Some k) f m g p refl (three (NamesAmong SLOTS) _ _ _ tt tt tt) (lit≤ tt)
+known_made (stores rs n a l) f m g p = code_known _ None f m g p refl (three (NamesAmong SLOTS) _ _ _ tt (slot_met n l) tt) (lit≤ tt)
+known_made (loads rd n k a l q) f m g p = code_known _ (Some k) f m g p refl (three (NamesAmong SLOTS) _ _ _ tt (slot_met n l) tt) (lit≤ tt)
+known_made (phis rs k a l) f m g p = tt
+known_made (marks n k l q) f m g p = tt
+known_made (branches rs n a l) f m g p = code_known _ None f m g p refl (three (NamesAmong SLOTS) _ _ _ tt tt tt) (lit≤ tt)
+known_made (jumps n l) f m g p = code_known _ None f m g p refl (one (NamesAmong SLOTS) _ tt) (lit≤ tt)
+known_made returns f m g p = code_known _ None f m g p refl (one (NamesAmong SLOTS) _ tt) (lit≤ tt)
+
+pub language_made : {kind : ItemKind} → IsMade TOP kind → IsOfLanguage false kind
+language_made (adds rd rs rt k a b c l) = (three (IsOperandOf false) _ _ _ tt tt tt, refl)
+language_made (copies rd rs k a b l) = (two (IsOperandOf false) _ _ tt tt, refl)
+language_made gives = (two (IsOperandOf false) _ _ tt tt, refl)
+language_made (sets rd n k a l m) = (three (IsOperandOf false) _ _ _ tt tt tt, refl)
+language_made (stores rs n a l) = (three (IsOperandOf false) _ _ _ tt tt tt, refl)
+language_made (loads rd n k a l m) = (three (IsOperandOf false) _ _ _ tt tt tt, refl)
+language_made (phis rs k a l) = tt
+language_made (marks n k l m) = tt
+language_made (branches rs n a l) = (three (IsOperandOf false) _ _ _ tt tt tt, refl)
+language_made (jumps n l) = (one (IsOperandOf false) _ tt, refl)
+language_made returns = (one (IsOperandOf false) _ tt, refl)
 
 pub named_made : {kind : ItemKind} → IsMade TOP kind → KindNamesAmong SLOTS kind
 named_made (adds rd rs rt k a b c l) = three (NamesAmong SLOTS) _ _ _ tt tt tt

@@ -1,5 +1,5 @@
 -- The document of a generated function is read as its program, alone and behind the metadata.
-use Rattle.std.proofs.Common.{◌≡◌, ℕ, ◌≤◌, [], ◌∷◌, ◌++◌, List, Ok, refl, sym, ap, ◌∙◌, subst, arith}
+use Rattle.std.proofs.Common.{◌≡◌, false, ℕ, ◌≤◌, [], ◌∷◌, ◌++◌, List, Ok, refl, sym, ap, ◌∙◌, subst, arith}
 use Rattle.std.proofs.lemmas.List.Elements.{All-nil}
 use Rattle.read_metadata.specs.Maps.{Maps}
 use Rattle.read_metadata.specs.Metadata.{metadata_of}
@@ -36,7 +36,7 @@ generated_documents_are_read number count some few =
     let f = generated number count in
     let d = document_of f [] in
     let meta = metadata_of [] in
-    let found = ap documents_of (sym (function_fed f [])) ∙ found_alone d (is_one meta number count some few) in
+    let found = ap (documents_of false) (sym (function_fed f [])) ∙ found_alone d (is_one meta number count some few) in
     subst (λ (x : Documents). ReadsDocuments x (Ok (generated_program number count))) (sym found)
     (Ok (record { func = f; subs = [] } ∷ []), one_read meta number count 1 some few, refl)
 
@@ -49,7 +49,7 @@ generated_texts_are_read number count some few =
     let meta = metadata_of (lines_from 2 metadata_lines) in
     let text : generated_text number count ≡ metadata_text ++ text_of_lines (document_lines d) =
     ap (λ (l : List ℕ). metadata_text ++ l) (sym (function_fed f [])) in
-    let found = ap documents_of (text ∙ block_fed (document_lines d))
+    let found = ap (documents_of false) (text ∙ block_fed (document_lines d))
     ∙ documents_behind metadata_lines d (is_one meta number count some few) lines_print lines_go_on refl in
     subst (λ (x : Documents). ReadsDocuments x (Ok (program_of_text number count))) (sym found)
     (Ok (record { func = f; subs = [] } ∷ []), one_read meta number count 10 some few, refl)

@@ -1,5 +1,5 @@
 -- The statements of the theorems on texts of generated functions.
-use Rattle.std.specs.Prelude.{ℕ, ◌≤◌, List, [], ◌∷◌, ◌++◌, length, codes, Ok}
+use Rattle.std.specs.Prelude.{false, ℕ, ◌≤◌, List, [], ◌∷◌, ◌++◌, length, codes, Ok}
 use Rattle.std.specs.Fmt.{decimal}
 use Rattle.read_metadata.specs.Metadata.{metadata_of}
 use Rattle.mir_func_printer.specs.FuncText.{func_text}
@@ -13,7 +13,7 @@ use Rattle.readback_functions.specs.Document.{lines_from}
 -- The document of a generated function alone is read as the program of the function, without metadata.
 abbrev pub GeneratedDocumentsAreRead : Type 0
 GeneratedDocumentsAreRead = (number count : ℕ) → 1 ≤ count → count ≤ 512 →
-    ReadsText (func_text (generated number count) []) (Ok (generated_program number count))
+    ReadsText false (func_text (generated number count) []) (Ok (generated_program number count))
 
 -- ---- with the metadata
 
@@ -39,7 +39,7 @@ program_of_text number count = record {
 
 -- The text that is generated is read as this program.
 abbrev pub GeneratedTextsAreRead : Type 0
-GeneratedTextsAreRead = (number count : ℕ) → 1 ≤ count → count ≤ 512 → ReadsText (generated_text number count) (Ok (program_of_text number count))
+GeneratedTextsAreRead = (number count : ℕ) → 1 ≤ count → count ≤ 512 → ReadsText false (generated_text number count) (Ok (program_of_text number count))
 
 -- ---- sizes
 

@@ -11,7 +11,7 @@ use Rattle.read_metadata.specs.Maps.{Maps}
 use Rattle.read_program.specs.declared.closing.Parsed.{Parsed}
 use Rattle.compile_theorem.specs.Source.{PassedFunction, SourceFunction}
 use Rattle.theorem_invariance.proofs.Passed.{passes_alone}
-use Rattle.compile_program.specs.Program.{ArePassed, steps_of, IsMadeBy, source_of, names_of}
+use Rattle.tool_driver.specs.Program.{ArePassed, steps_of, IsMadeBy, source_of, names_of}
 use Rattle.theorem_invariance.specs.Text.{OneByOne}
 use Rattle.theorem_invariance.specs.OutputAlone.{AreReadAlike, OutputsOfAlikeCode}
 

@@ -17,7 +17,7 @@ use Rattle.invariance_code.specs.Alike.{HaveAlikeCode, HaveSameCode}
 use Rattle.pass_list.specs.declared.kind.PassKind.{PassKind}
 use Rattle.pass_list.specs.declared.kind.PassKind.TheVariants.{Copy, Remat, Spill, Dead, Fold}
 use Rattle.pass_manager.specs.Passes.{steps_of_pass, steps_of as steps_of_list}
-use Rattle.compile_program.specs.Program.{steps_of}
+use Rattle.compile_passes.specs.Passed.{steps_of}
 use Rattle.scan_pass.proofs.Scanned.{scan_is_one, scan_sees_code_alone}
 use Rattle.scan_pass.specs.Scanned.{scan_steps}
 use Rattle.theorem_invariance.specs.Text.{OneByOne}
@@ -49,9 +49,11 @@ same_of_list reserve [] = tt
 same_of_list reserve (p ∷ ps) = same_then (steps_of_pass reserve p) (steps_of_list reserve ps) (same_of_pass reserve p) (same_of_list reserve ps)
 
 one_each : (reserve : List ℕ) (passes : List PassKind) → EachCode HasOneResult (steps_of reserve passes)
+unfolding steps_of
 one_each reserve passes = one_then (scan_steps reserve) (steps_of_list reserve passes) (scan_is_one reserve) (one_of_list reserve passes)
 
 same_each : (reserve : List ℕ) (passes : List PassKind) → EachCode SeesCodeAlone (steps_of reserve passes)
+unfolding steps_of
 same_each reserve passes = same_then (scan_steps reserve) (steps_of_list reserve passes) (scan_sees_code_alone reserve) (same_of_list reserve passes)
 
 pub passes_alone : PassesMakeCodeAlone

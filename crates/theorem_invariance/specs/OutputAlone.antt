@@ -5,7 +5,7 @@ use Rattle.invariance_code.specs.Alike.{HaveAlikeCode}
 use Rattle.read_program.specs.declared.closing.Parsed.{Parsed}
 use Rattle.read_program.specs.declared.program.Program.{Program}
 use Rattle.pass_list.specs.declared.kind.PassKind.{PassKind}
-use Rattle.compile_program.specs.Program.{IsOutputOf, steps_of}
+use Rattle.tool_driver.specs.Program.{IsOutputOf, steps_of}
 use Rattle.theorem_invariance.specs.Text.{OneByOne}
 
 -- two functions that were read have equal code up to debug items (see `HaveAlikeCode`)

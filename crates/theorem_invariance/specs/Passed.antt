@@ -9,7 +9,7 @@ use Rattle.pass_trait.specs.Change.{change}
 use Rattle.pass_trait.specs.Steps.{MakesInTurn, KeepsSteps, MakeCodeAlone}
 use Rattle.invariance_code.specs.Alike.{HaveAlikeCode, HaveSameCode}
 use Rattle.pass_list.specs.declared.kind.PassKind.{PassKind}
-use Rattle.compile_program.specs.Program.{steps_of}
+use Rattle.tool_driver.specs.Program.{steps_of}
 use Rattle.theorem_invariance.specs.Text.{IsLaid, AreLaid, OneByOne}
 use Rattle.invariance_code.specs.Alone.{AreCodedAlike, AreCodedSame}
 

@@ -25,8 +25,7 @@ use Rattle.read_metadata.specs.Maps.{Maps}
 use Rattle.read_program.specs.declared.closing.Parsed.{Parsed}
 use Rattle.compile_theorem.specs.Source.{PassedFunction}
 use Rattle.pass_list.specs.declared.kind.PassKind.{PassKind}
-use Rattle.compile_function.specs.declared.compiled_function.CompiledFunction.{CompiledFunction}
-use Rattle.compile_program.specs.Program.{ArePassed, AreCompiledAs, names_of, passes_of}
+use Rattle.run_command.specs.Program.{CompiledFunction, ArePassed, AreCompiledAs, names_of, passes_of}
 use Rattle.theorem_marks.specs.Stand.{KeepsDebugValue, MarksStand, AllStand, CompiledMarksStand}
 use Rattle.theorem_marks.proofs.Marks.{IsMark, HaveMark, passes_keep}
 use Rattle.theorem_marks.proofs.Order.{at_least, kept_later}

@@ -10,6 +10,7 @@ use Rattle.mir_func.specs.Function.{Function}
 use Rattle.mir_func.specs.Graph.{block_start}
 use Rattle.mir_func.specs.Objects.{area_of, offset_of}
 use Rattle.rv64_instr.specs.Linked.{addresses_in}
+use Rattle.rv64_instr.specs.declared.symbol.Symbol.{Symbol}
 use Rattle.sem_mir.specs.InitialState.{first_of}
 use Rattle.sem_mir.specs.State.{State, content}
 use Rattle.sem_mir.specs.Step.{or_zero}
@@ -17,8 +18,8 @@ use Rattle.sim_start.specs.InitialMachine.{start_register, other_register, repli
 use Rattle.theorem_marks.specs.Starts.{RunsCanStart}
 use Rattle.theorem_marks.proofs.Replies.{all_replies}
 
-module _ (source : Function) (image : Image) (arguments values : List ℕ) (limit : ℕ) (low : All (λ a. a < 2 ^ 64) arguments)
-    (small : All (λ v. v < 2 ^ 64) values) (few : limit < 2 ^ 64) where
+module _ (source : Function) (image : Image) (addresses : List (Symbol × ℕ)) (arguments values : List ℕ) (limit : ℕ)
+    (low : All (λ a. a < 2 ^ 64) arguments) (small : All (λ v. v < 2 ^ 64) values) (few : limit < 2 ^ 64) where
   abbrev regs : ℕ → Option ℕ
   regs r = cond (nat_lt r 32) (Some (start_register arguments r)) None
 
@@ -29,7 +30,7 @@ module _ (source : Function) (image : Image) (arguments values : List ℕ) (limi
       entry = 1048576;
       area = area_of source.objects;
       objects = offset_of source.objects;
-      symbols = addresses_in [];
+      symbols = addresses_in addresses;
       regs = regs;
       slots = λ n. None;
       memory = λ a. 0;
@@ -88,9 +89,9 @@ module _ (source : Function) (image : Image) (arguments values : List ℕ) (limi
   at_register zero lt = refl
   at_register (suc r) lt = ap or_zero (written (suc r) lt)
 
-  pub begins : BeginsAsked source image arguments values limit start
+  pub begins : BeginsAsked source image addresses arguments values limit start
   begins = record { starts = starts; entry = refl; symbols = refl; regs = at_register; memory = λ a. refl; script = refl }
 
 pub runs_can_start : RunsCanStart
-runs_can_start source image arguments values limit low small few =
-    (start source image arguments values limit low small few, begins source image arguments values limit low small few)
+runs_can_start source image addresses arguments values limit low small few =
+    (start source image addresses arguments values limit low small few, begins source image addresses arguments values limit low small few)

@@ -15,9 +15,8 @@ use Rattle.pass_trait.specs.Rule.{StandsAt, mark_lost}
 use Rattle.read_program.specs.declared.program.Program.{Program}
 use Rattle.compile_theorem.specs.Source.{PassedFunction, IsPassedFunction}
 use Rattle.pass_list.specs.declared.kind.PassKind.{PassKind}
-use Rattle.compile_function.specs.declared.compiled_function.CompiledFunction.{CompiledFunction}
-use Rattle.compile_program.specs.declared.compile.Compilation.{Compilation}
-use Rattle.compile_program.specs.Program.{IsCompilationOf, IsMadeLosing}
+use Rattle.run_command.specs.Program.{CompiledFunction, IsCompilationOf, IsMadeLosing}
+use Rattle.run_command.specs.Runs.{Compilation}
 
 -- no loss of the debug value at this source position is reported
 abbrev pub IsNotDropped : (told : List Loss) → Pos → Type 0

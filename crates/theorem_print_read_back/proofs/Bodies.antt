@@ -1,5 +1,4 @@
 -- What is read of the lines of blocks that were read.
-use Rattle.rv64_instr.specs.Form.{has_form}
 use Rattle.std.proofs.Common.{◌≡◌, ℕ, suc, ◌+◌, Bool, true, false, cond, eqb, ◌||◌, List, [], ◌∷◌, map, length, All, Option}
 use Rattle.std.proofs.Common.{Some, None, refl, sym, ap, ◌∙◌, arith}
 use Rattle.std.specs.List.{list_all, list_any, slice_get}
@@ -24,16 +23,15 @@ use Rattle.mir_func.specs.Sound.{AllItems, items_of, ids_of, number_of}
 use Rattle.read_body.specs.Body.{constant_of, object_named}
 use Rattle.read_body.specs.Closing.{goes_to_one_of, item_goes_to, blocks_go_to, all_met}
 use Rattle.read_body.specs.FirstUseOrder.{is_met}
-use Rattle.read_item.specs.Opcode.{is_read}
-use Rattle.read_program.specs.Limited.{PlaceIsLimited, KindIsLimited}
-use Rattle.read_program.specs.Objects.{instr_as, place_as, kind_as, item_as, blocks_as, operands_as}
+use Rattle.read_program.specs.Limited.{PlaceIsLimited, KindIsLimited, IsOfLanguage}
+use Rattle.read_program.specs.Objects.{instr_as, place_as, kind_as, item_as, blocks_as}
 use Rattle.read_program.proofs.Bodies.{IsReadBlock}
 use Rattle.read_program.proofs.Items.{KindNamesAmong}
 use Rattle.readback_items.specs.Code.{judged_kind}
 use Rattle.readback_items.specs.Body.{item_at, items_from, judged_block, entries_named, names_object, judged_constant, VariableIn}
 use Rattle.readback_functions.specs.Known.{names}
 use Rattle.readback_functions.proofs.Bodies.{code_declared}
-use Rattle.readback_functions.proofs.FunctionCodes.{KnownKind, same_code, code_limited, code_named}
+use Rattle.readback_functions.proofs.FunctionCodes.{KnownKind, same_code, code_limited, code_language, code_read, code_named}
 
 module _ (ids entries : List ℕ) where
   abbrev Knows : Item → Type 0
@@ -65,16 +63,15 @@ module _ (ids entries : List ℕ) where
     by true = tt
     by false = small
 
-  same_opcode : (c : Instruction) → (instr_as ids c).op ≡ c.op
-  same_opcode c = by (has_form c.op (operands_as ids c.operands)) where
-    by : (b : Bool) → (let i : Instruction = cond b (record { op = c.op; operands = operands_as ids c.operands }) c in i.op) ≡ c.op
-    by true = refl
-    by false = refl
-
   pub kind_limited : (kind : ItemKind) → KnownKind entries kind → KindIsLimited kind → KindIsLimited (kind_as ids kind)
-  kind_limited (Code c k) is small = (code_limited ids entries c is, small.1, ap is_read (same_opcode c) ∙ small.2)
+  kind_limited (Code c k) is small = (code_limited ids entries c is, small.1)
   kind_limited (Mark v m) is small = small
   kind_limited (Phi p k) is small = (place_limited p small.0, small.1)
+
+  pub kind_language : (kind : ItemKind) → KnownKind entries kind → IsOfLanguage false (kind_as ids kind)
+  kind_language (Code c k) is = (code_language ids entries c is, code_read ids entries c is)
+  kind_language (Mark v m) is = tt
+  kind_language (Phi p k) is = tt
 
   -- ---- objects
 

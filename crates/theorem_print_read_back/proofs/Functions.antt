@@ -1,6 +1,7 @@
 -- The document of a function that was read is read as that function.
-use Rattle.std.proofs.Common.{◌≡◌, ℕ, ◌+◌, ◌≤◌, true, List, [], ◌∷◌, map, length, All, Option, None, Result, Ok, Err}
+use Rattle.std.proofs.Common.{◌≡◌, Bool, false, ℕ, ◌+◌, ◌≤◌, true, ◌&&◌, List, [], ◌∷◌, map, length, All, Option, None, Result, Ok, Err}
 use Rattle.std.proofs.Common.{refl, sym, ap, subst, ◌∙◌, arith, append-nil}
+use Rattle.std.proofs.lemmas.Bool.{and_from}
 use Rattle.std.specs.Prelude.{is_some, IfSome}
 use Rattle.std.proofs.lemmas.List.Elements.{All-nil, All-cons, All-weaker}
 use Rattle.read_refusal.specs.declared.first.Refusal.{Refusal}
@@ -29,9 +30,12 @@ use Rattle.read_body.specs.FirstUseOrder.{is_met}
 use Rattle.read_program.specs.declared.closing.Parsed.{Parsed}
 use Rattle.read_program.specs.declared.error.ParseError.{ParseError}
 use Rattle.read_program.specs.BodyLines.{body_of}
+use Rattle.read_program.specs.Pool.{are_known}
 use Rattle.read_program.specs.Closing.{entry_ids, laid_out, stays, parts_of, closing_cause, function_of, EndWell, Closes, ParsesParts, Parses}
 use Rattle.read_program.specs.Objects.{kind_as, item_as, block_as, blocks_as, blocks_stay}
-use Rattle.read_program.proofs.Bodies.{IsReadBlock, IsReadBody, ComesFromLine, body_reads}
+use Rattle.read_program.proofs.KnownConstants.{plain_known}
+use Rattle.read_program.proofs.Bodies.{IsReadBlock, IsReadBody}
+use Rattle.read_program.proofs.Comes.{ComesFromLine, plain_body_reads}
 use Rattle.read_program.proofs.Entries.{declared_if_met, ids_are_objects}
 use Rattle.read_program.proofs.Forms.{line_fits}
 use Rattle.read_program.proofs.Items.{IsReadItem, item_reads}
@@ -65,26 +69,27 @@ use Rattle.readback_functions.proofs.Functions.{no_fixed}
 use Rattle.readback_functions.proofs.NameDocuments.{DocBytes}
 use Rattle.readback_functions.proofs.NameFunctions.{WasRead, program_is, program_read, names_are_of_bytes}
 use Rattle.theorem_print_read_back.specs.Printed.{IsReadAsPrinted, PrintedFunctionsAreRead}
-use Rattle.theorem_print_read_back.proofs.Bodies.{same_number, same_variable, same_constant, kind_limited, blocks_named, blocks_go, kind_declared, blocks_again}
-use Rattle.theorem_print_read_back.proofs.Bodies.{same_length}
+use Rattle.theorem_print_read_back.proofs.Bodies.{same_number, same_variable, same_constant, kind_limited, kind_language, blocks_named, blocks_go}
+use Rattle.theorem_print_read_back.proofs.Bodies.{kind_declared, blocks_again, same_length}
 use Rattle.theorem_print_read_back.proofs.Bodies.{ids_as, all_as}
 use Rattle.theorem_print_read_back.proofs.Texts.{document_of, document_is, function_fed}
 
 -- an item that comes from a line
-item_read : (meta : Maps) (body : Body) (kind : ItemKind) (loc : Loc) → ComesFromLine meta body kind loc → IsReadItem meta body.entries kind loc
+item_read : (meta : Maps) (body : Body) (kind : ItemKind) (loc : Loc) → ComesFromLine false meta body kind loc → IsReadItem false meta body.entries kind loc
 item_read meta body kind loc from =
-    subst (λ (l : Loc). IsReadItem meta body.entries kind l) from.loc_is
-    (subst (λ (k : ItemKind). IsReadItem meta body.entries k from.item.loc) from.kind_is
-    (item_reads meta body.entries from.form from.item (line_fits from.text from.form from.says) (judged_line meta from.form from.item from.judged)
+    subst (λ (l : Loc). IsReadItem false meta body.entries kind l) from.loc_is
+    (subst (λ (k : ItemKind). IsReadItem false meta body.entries k from.item.loc) from.kind_is
+    (item_reads false meta body.entries from.form from.item (line_fits false from.text from.form from.says) (judged_line false meta from.form from.item
+    from.judged)
     from.entries))
 
 -- what is known of an item
 record IsGood (meta : Maps) (body : Body) (kind : ItemKind) (loc : Loc) : Type 0 where
   known : KnownKind body.entries kind
-  read : IsReadItem meta body.entries kind loc
+  read : IsReadItem false meta body.entries kind loc
 
 module _ (meta : Maps) (doc : FunctionDocument) (d : Declarations) (body : Body) (p : Parsed) (declared : declarations_of doc ≡ Ok d)
-    (read : body_of meta doc.body ≡ Ok body) (closes : Closes doc.closed d body (Ok p)) (parses : Parses meta doc (Ok p))
+    (plain : doc.linked ≡ false) (read : body_of false meta doc.body ≡ Ok body) (closes : Closes doc.closed d body (Ok p)) (parses : Parses meta doc (Ok p))
     (names : HasNamesOfBytes (function_of d body)) (n : ℕ) where
   abbrev ids : List ℕ
   ids = ids_of_objects body.objects d.stack
@@ -101,21 +106,21 @@ module _ (meta : Maps) (doc : FunctionDocument) (d : Declarations) (body : Body)
   abbrev Good : Item → Type 0
   Good i = IsGood meta body i.kind i.loc
 
-  is : IsReadBody (ComesFromLine meta body) body
-  is = body_reads meta doc.body body read
+  is : IsReadBody (ComesFromLine false meta body) body
+  is = plain_body_reads meta doc.body body read
 
   known : IsKnown meta (map (λ (l : Line). l.text) doc.body) body
   known = bodies_are_known meta doc.body body read
 
   sound : IsSound f
-  sound = sound_if_ends_well meta doc d body declared read closes.0 closes.3
+  sound = sound_if_ends_well meta doc d body declared (subst (λ (b : Bool). body_of b meta doc.body ≡ Ok body) (sym plain) read) closes.0 closes.3
 
   closed : ClosesAll d body
   closed = closes_all d body closes.0
 
   good : AllItems Good bs
-  good = All-weaker (IsReadBlock (ComesFromLine meta body)) (λ (b : Block). All Good b.items)
-      (λ b r. All-weaker (λ i. ComesFromLine meta body i.kind i.loc) Good
+  good = All-weaker (IsReadBlock (ComesFromLine false meta body)) (λ (b : Block). All Good b.items)
+      (λ b r. All-weaker (λ i. ComesFromLine false meta body i.kind i.loc) Good
       (λ i from. record {
         known = (item_known meta body.entries i.kind i.loc from.form from.item from.text from.says from.judged from.kind_is from.loc_is from.entries).kind_is;
         read = item_read meta body i.kind i.loc from;
@@ -161,7 +166,12 @@ module _ (meta : Maps) (doc : FunctionDocument) (d : Declarations) (body : Body)
   writes = both_items Good NameBytes bs good (of_items (λ i. HasByteNames i.kind) names.symbols)
 
   writable : (i : Item) → Writes i → IsWritable (item_as ids i)
-  writable i w = record { kind = kind_limited ids body.entries i.kind w.0.known w.0.read.limited; loc = w.0.read.place; names = w.1 }
+  writable i w = record {
+    kind = kind_limited ids body.entries i.kind w.0.known w.0.read.limited;
+    language = kind_language ids body.entries i.kind w.0.known;
+    loc = w.0.read.place;
+    names = w.1;
+  }
 
   all_writable : All IsWritable (items_of f.blocks)
   all_writable = all_as ids body.entries Writes IsWritable writable bs writes
@@ -180,7 +190,7 @@ module _ (meta : Maps) (doc : FunctionDocument) (d : Declarations) (body : Body)
   HasVariable i = VariableIn body.variables i.kind
 
   small_ids : All (λ (b : Block). b.id ≤ MAX_NUMBER) f.blocks
-  small_ids = blocks_small ids bs (subst (λ (ns : List ℕ). All (λ k. k ≤ MAX_NUMBER) ns) is.ids (ids_small meta doc.body body read))
+  small_ids = blocks_small ids bs (subst (λ (ns : List ℕ). All (λ k. k ≤ MAX_NUMBER) ns) is.ids (ids_small false meta doc.body body read))
 
   within : AreWithin f.blocks
   within = record {
@@ -232,7 +242,7 @@ module _ (meta : Maps) (doc : FunctionDocument) (d : Declarations) (body : Body)
   frame = frames_read_back body.objects body2.objects d.stack entries same_named
 
   abbrev declared2 : Declarations
-  declared2 = record { name = d.name; stack = entries_again body.objects d.stack; substitutions = d.substitutions }
+  declared2 = record { name = d.name; stack = entries_again body.objects d.stack; substitutions = d.substitutions; pool = [] }
 
   abbrev ids2 : List ℕ
   ids2 = ids_of_objects body2.objects declared2.stack
@@ -242,7 +252,7 @@ module _ (meta : Maps) (doc : FunctionDocument) (d : Declarations) (body : Body)
       ∙ (ap (λ (os : List func.Object). is_some (object_of os m)) frame.objects ∙ sym (ids_are_objects body.objects m d.stack))
 
   blocks : blocks_as ids2 (blocks_of body2) ≡ f.blocks
-  blocks = ap (blocks_as ids2) reads.made ∙ blocks_again ids body.entries ids2 same_ids (ComesFromLine meta body) bs is.blocks knows
+  blocks = ap (blocks_as ids2) reads.made ∙ blocks_again ids body.entries ids2 same_ids (ComesFromLine false meta body) bs is.blocks knows
 
   same_function : function_of declared2 body2 ≡ f
   same_function = λ i. record { name = d.name; slots = frame.slots i; objects = frame.objects i; blocks = blocks i }
@@ -256,8 +266,8 @@ module _ (meta : Maps) (doc : FunctionDocument) (d : Declarations) (body : Body)
       frame.declared.few in
       let subs = substitutions_read_back (n + 2 + length printed.stack) d.substitutions (declares_small doc d declared).substitutions
       (substitutions_new doc d declared) in
-      λ i. checked (earlier (earlier (name i).refused (stack i).refused) (earlier (no_fixed i) (subs i).refused))
-      (record { name = (name i).name; stack = (stack i).entries; substitutions = (subs i).entries })
+      λ i. checked (earlier (earlier (earlier (name i).refused (stack i).refused) (earlier (no_fixed i) (subs i).refused)) None)
+      (record { name = (name i).name; stack = (stack i).entries; substitutions = (subs i).entries; pool = [] })
 
   -- ---- its close
 
@@ -277,14 +287,18 @@ module _ (meta : Maps) (doc : FunctionDocument) (d : Declarations) (body : Body)
   accesses = parts_some (stays (laid_out body2.objects declared2.stack (blocks_of body2))) (laid_out body2.objects declared2.stack (blocks_of body2))
       ∙ ((λ i. blocks_stay (frame.objects i) (blocks i)) ∙ closed.accesses)
 
+  constants : are_known [] (blocks_of body2) ≡ true
+  constants = plain_known meta doc2.body body2 reads.read []
+
   none : closing_cause declared2 body2 ≡ None
   none = no_cause (blocks_go_to body2.ids (blocks_of body2)) (all_met (entry_ids declared2.stack) body2.entries)
-      (is_some (parts_of body2.objects declared2.stack (blocks_of body2))) branches all_entries accesses
+      (are_known [] (blocks_of body2) && is_some (parts_of body2.objects declared2.stack (blocks_of body2))) branches all_entries
+      (and_from (are_known [] (blocks_of body2)) (is_some (parts_of body2.objects declared2.stack (blocks_of body2))) constants accesses)
 
   function_read : Parses meta doc2 (Ok (record { func = f; subs = d.substitutions }))
   function_read =
       let answer : Result Parsed ParseError = Ok (record { func = f; subs = d.substitutions }) in
-      subst (λ (r : Result Declarations Refusal). ParsesParts doc2.closed r (body_of meta doc2.body) answer) (sym declares)
+      subst (λ (r : Result Declarations Refusal). ParsesParts doc2.closed r (body_of false meta doc2.body) answer) (sym declares)
       (subst (λ (r : Result Body Refusal). ParsesParts doc2.closed (Ok declared2) r answer) (sym reads.read)
       (none, sym same_function, refl, subst EndWell (sym blocks) closes.3))
 
@@ -294,43 +308,46 @@ module _ (meta : Maps) (doc : FunctionDocument) (d : Declarations) (body : Body)
 -- ---- a function
 
 pub found_alone : (f : Document) → IsDocument f →
-    documents_of (text_of_lines (document_lines f)) ≡ record { meta = []; functions = document_at 1 f ∷ []; bad = None }
+    documents_of false (text_of_lines (document_lines f)) ≡ record { meta = []; functions = document_at 1 f ∷ []; bad = None }
 unfolding documents_at
 found_alone f is =
-    ap (λ (ls : List (List ℕ)). documents_of (text_of_lines ls)) (sym (append-nil (document_lines f)))
+    ap (λ (ls : List (List ℕ)). documents_of false (text_of_lines ls)) (sym (append-nil (document_lines f)))
     ∙ documents_read_back (f ∷ []) (All-cons IsDocument f [] is (All-nil IsDocument))
 
 read_as_printed : (meta : Maps) (doc : FunctionDocument) (d : Declarations) (body : Body) (p : Parsed) → declarations_of doc ≡ Ok d →
-    body_of meta doc.body ≡ Ok body → Closes doc.closed d body (Ok p) → Parses meta doc (Ok p) → HasNamesOfBytes (function_of d body) →
+    doc.linked ≡ false → body_of false meta doc.body ≡ Ok body → Closes doc.closed d body (Ok p) → Parses meta doc (Ok p) →
+    HasNamesOfBytes (function_of d body) →
     IsReadAsPrinted meta (record { func = function_of d body; subs = d.substitutions })
-read_as_printed meta doc d body p declared read closes parses names =
+read_as_printed meta doc d body p declared plain read closes parses names =
     let whole = document_of (function_of d body) d.substitutions in
     record {
       document = document_at 1 whole;
-      found = ap documents_of (sym (function_fed (function_of d body) d.substitutions))
-          ∙ found_alone whole (is_document meta doc d body p declared read closes parses names 1);
-      reads = function_read meta doc d body p declared read closes parses names 1;
+      found = ap (documents_of false) (sym (function_fed (function_of d body) d.substitutions))
+          ∙ found_alone whole (is_document meta doc d body p declared plain read closes parses names 1);
+      reads = function_read meta doc d body p declared plain read closes parses names 1;
     }
 
 by_parts : (meta : Maps) (doc : FunctionDocument) (p : Parsed) (d : Result Declarations Refusal) (body : Result Body Refusal) →
-    declarations_of doc ≡ d → body_of meta doc.body ≡ body → ParsesParts doc.closed d body (Ok p) → Parses meta doc (Ok p) → HasNamesOfBytes p.func →
+    declarations_of doc ≡ d → doc.linked ≡ false → body_of false meta doc.body ≡ body → ParsesParts doc.closed d body (Ok p) → Parses meta doc (Ok p) →
+    HasNamesOfBytes p.func →
     IsReadAsPrinted meta p
-by_parts meta doc p (Ok d) (Ok body) declared read closes parses names =
+by_parts meta doc p (Ok d) (Ok body) declared plain read closes parses names =
     let same : record { func = function_of d body; subs = d.substitutions } ≡ p = λ i. record { func = sym closes.1 i; subs = sym closes.2 i } in
-    subst (IsReadAsPrinted meta) same (read_as_printed meta doc d body p declared read closes parses (subst HasNamesOfBytes closes.1 names))
-by_parts meta doc p (Ok d) (Err s) declared read refused parses names = absurd refused
-by_parts meta doc p (Err r) (Ok body) declared read refused parses names = absurd refused
-by_parts meta doc p (Err r) (Err s) declared read refused parses names = absurd refused
+    subst (IsReadAsPrinted meta) same (read_as_printed meta doc d body p declared plain read closes parses (subst HasNamesOfBytes closes.1 names))
+by_parts meta doc p (Ok d) (Err s) declared plain read refused parses names = absurd refused
+by_parts meta doc p (Err r) (Ok body) declared plain read refused parses names = absurd refused
+by_parts meta doc p (Err r) (Err s) declared plain read refused parses names = absurd refused
 
 -- ---- a program
 
 pub printed_functions_are_read : PrintedFunctionsAreRead
 printed_functions_are_read text p bytes reads =
-    let docs = documents_of text in
+    let docs = documents_of false text in
     let meta = metadata_of docs.meta in
     let from = program_is meta docs.bad reads.0 p reads.2 in
     subst (λ (m : Maps). All (IsReadAsPrinted m) p.functions) (sym from.maps)
     (All-weaker (λ q. WasRead DocBytes meta q × HasNamesOfBytes q.func) (IsReadAsPrinted meta)
-    (λ q was. by_parts meta was.0.doc q (declarations_of was.0.doc) (body_of meta was.0.doc.body) refl refl was.0.parses was.0.parses was.1) p.functions
+    (λ q was. by_parts meta was.0.doc q (declarations_of was.0.doc) (body_of was.0.doc.linked meta was.0.doc.body) refl was.0.is.plain
+    (ap (λ (b : Bool). body_of b meta was.0.doc.body) (sym was.0.is.plain)) was.0.parses was.0.parses was.1) p.functions
     (both (WasRead DocBytes meta) (λ (q : Parsed). HasNamesOfBytes q.func) p.functions (program_read text p bytes reads).1
     (names_are_of_bytes text p bytes reads)))

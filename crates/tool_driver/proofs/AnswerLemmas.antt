@@ -1,5 +1,5 @@
 -- What a command writes of an input, by what it writes of the program that was read.
-use Rattle.std.specs.Prelude.{Some, Result, Ok, Err, IfOk, IfErr, true}
+use Rattle.std.specs.Prelude.{Some, Result, Ok, Err, IfOk, IfErr, Bool, true}
 use Rattle.std.proofs.Common.{◌≡◌, ◌⊎◌, ℕ, List, refl, sym, subst, inl, inr}
 use Rattle.read_program.specs.declared.program.Program.{Program}
 use Rattle.cli.specs.declared.command.Command.{Command}
@@ -13,8 +13,8 @@ use Rattle.cli.specs.declared.fault.Fault.TheVariants.{Usage, Read, TooLong, Ref
 use Rattle.cli.specs.declared.fault.Fault.TheVariants.{NoRegister, FrameTooLarge, SymbolName, SectionTooLarge, Write, Memory}
 use Rattle.pass_trait.specs.Steps.{PassStep}
 use Rattle.run_command.specs.Source.{IsUnknown}
-use Rattle.compile_program.specs.Program.{HasLargeSection, HasLargeFrameSection, HasLargeInlinedSection}
-use Rattle.tool_driver.specs.Answer.{Answers, IsTestText}
+use Rattle.run_command.specs.Program.{HasLargeSection, HasLargeFrameSection, HasLargeInlinedSection}
+use Rattle.tool_driver.specs.Answer.{is_linked, Answers, IsTestText}
 use Rattle.tool_driver.specs.Run.{HasReadProgram, AnswersRead, AnswersInput}
 use Rattle.tool_driver.specs.Refusals.{IsReader, IsNamed, plan_of, RefusesProgram, no_register, frame_too_large, section_too_large, frame_section_too_large}
 use Rattle.tool_driver.specs.Refusals.{inlined_section_too_large}
@@ -26,13 +26,14 @@ use Rattle.tool_driver.specs.Compiled.{plan_steps}
 -- ---- a program was read
 
 -- what a command writes of it
-read_answers : (command : Command) (input : Change) (program : Program) → HasReadProgram input program → (output : List ℕ) →
+read_answers : (command : Command) (input : Change) (program : Program) → HasReadProgram (is_linked command) input program → (output : List ℕ) →
     Answers command program output → AnswersRead command input output
 read_answers command input program read output answers =
     record { text = read.text; read = read.read; answers = record { program = program; has = read.has; answers = answers } }
 
 -- why it writes nothing of the program
-held_back : (command : Command) → IsReader command → (input : Change) (program : Program) → HasReadProgram input program → (fault : Fault) →
+held_back : (command : Command) → IsReader command → (input : Change) (program : Program) → HasReadProgram (is_linked command) input program →
+    (fault : Fault) →
     RefusesToWrite command program fault → ReadingEnds command input fault
 held_back command reads input program read UnknownFunction refused = refused_program program reads read refused
 held_back command reads input program read NoRegister refused = refused_program program reads read refused
@@ -49,7 +50,8 @@ held_back command reads input program read Write refused = absurd refused
 
 -- ---- none was read
 
-pub read_none : (command : Command) → IsReader command → (input : Change) (fault : Fault) → HasReadNone input fault → ReadingEnds command input fault
+pub read_none : (command : Command) → IsReader command → (input : Change) (fault : Fault) → HasReadNone (is_linked command) input fault →
+    ReadingEnds command input fault
 read_none command reads input Read none = (reads, none)
 read_none command reads input Memory none = tt
 read_none command reads input TooLong none = too_long reads none
@@ -116,7 +118,7 @@ run_named run program known other same unknown =
     let one : run ≡ other = cc in
     known (subst (λ (r : RunPlan). IsUnknown r.name program.functions) (sym one) unknown)
 
-module _ (asked : CompilePlan) (input : Change) (program : Program) (read : HasReadProgram input program) where
+module _ (asked : CompilePlan) (input : Change) (program : Program) (read : HasReadProgram asked.plan.linked input program) where
   pub compile_ok : (r : Result (List ℕ) Fault) → IfOk r (Answers (Compile asked) program) → IfOk r (AnswersInput (Compile asked) input)
   compile_ok (Ok output) answers = read_answers (Compile asked) input program read output answers
   compile_ok (Err fault) answers = tt
@@ -125,7 +127,7 @@ module _ (asked : CompilePlan) (input : Change) (program : Program) (read : HasR
   compile_err (Ok output) refused = tt
   compile_err (Err fault) refused = held_back (Compile asked) tt input program read fault refused
 
-module _ (plan : PassPipeline) (input : Change) (program : Program) (read : HasReadProgram input program) where
+module _ (plan : PassPipeline) (input : Change) (program : Program) (read : HasReadProgram plan.linked input program) where
   pub listing_ok : (r : Result (List ℕ) Fault) → IfOk r (Answers (Listing plan) program) → IfOk r (AnswersInput (Listing plan) input)
   listing_ok (Ok output) answers = read_answers (Listing plan) input program read output answers
   listing_ok (Err fault) answers = tt
@@ -154,7 +156,7 @@ module _ (plan : PassPipeline) (input : Change) (program : Program) (read : HasR
   object_err (Ok output) refused = tt
   object_err (Err fault) refused = held_back (Object plan) tt input program read fault refused
 
-module _ (run : RunPlan) (input : Change) (program : Program) (read : HasReadProgram input program) where
+module _ (run : RunPlan) (input : Change) (program : Program) (read : HasReadProgram run.plan.linked input program) where
   pub run_ok : (r : Result (List ℕ) Fault) → IfOk r (Answers (Run run) program) → IfOk r (AnswersInput (Run run) input)
   run_ok (Ok output) answers = read_answers (Run run) input program read output answers
   run_ok (Err fault) answers = tt
@@ -165,9 +167,9 @@ module _ (run : RunPlan) (input : Change) (program : Program) (read : HasReadPro
 
 -- ---- the others
 
-pub strip_ok : (input : Change) (program : Program) (output : List ℕ) → HasReadProgram input program → Answers Strip program output →
-    AnswersInput Strip input output
-strip_ok input program output read answers = read_answers Strip input program read output answers
+pub strip_ok : (linked : Bool) (input : Change) (program : Program) (output : List ℕ) → HasReadProgram linked input program →
+    Answers (Strip linked) program output → AnswersInput (Strip linked) input output
+strip_ok linked input program output read answers = read_answers (Strip linked) input program read output answers
 
 pub memory_ends : (command : Command) (input : Change) (fault : Fault) → fault ≡ Memory → ReadingEnds command input fault
 memory_ends command input Memory is = tt

@@ -1,5 +1,5 @@
 -- What is known of an input by what was read from it.
-use Rattle.std.proofs.Common.{◌≡◌, ◌≢◌, ◌+◌, [], Result, Ok, Err}
+use Rattle.std.proofs.Common.{◌≡◌, ◌≢◌, Bool, ◌+◌, [], Result, Ok, Err}
 use Rattle.base_io.specs.Told.{TakesCount}
 use Rattle.read_refusal.specs.declared.first.Refusal.{Refusal}
 use Rattle.read_program.specs.declared.program.Program.{Program}
@@ -13,8 +13,9 @@ use Rattle.tool_driver.specs.Run.{HasRead, HasReadProgram}
 use Rattle.tool_driver.specs.steps.Ends.{RefusesInput}
 use Rattle.tool_driver.specs.Stream.{Change, IsSteady}
 
-module _ (input : Change) (steady : IsSteady input) where
-  has_read : {answer : Result Program ParseError} → (read : IsReadWhole input.before.bytes input.after.bytes INPUT_LIMIT answer) → HasRead input read.text
+module _ (linked : Bool) (input : Change) (steady : IsSteady input) where
+  has_read : {answer : Result Program ParseError} → (read : IsReadWhole linked input.before.bytes input.after.bytes INPUT_LIMIT answer) →
+      HasRead input read.text
   has_read read = record {
     whole = record { takes = read.takes; ended = read.ended; steady = steady };
     within = read.within;
@@ -22,18 +23,19 @@ module _ (input : Change) (steady : IsSteady input) where
   }
 
   -- a program with a function
-  pub reads_program : (program : Program) → IsReadWhole input.before.bytes input.after.bytes INPUT_LIMIT (Ok program) → program.functions ≢ [] →
-      HasReadProgram input program
+  pub reads_program : (program : Program) → IsReadWhole linked input.before.bytes input.after.bytes INPUT_LIMIT (Ok program) → program.functions ≢ [] →
+      HasReadProgram linked input program
   reads_program program read some = record { text = read.text; read = has_read read; has = record { reads = read.reads; some = some } }
 
   -- a program without functions
-  pub reads_none : (program : Program) → IsReadWhole input.before.bytes input.after.bytes INPUT_LIMIT (Ok program) → program.functions ≡ [] →
-      RefusesInput input NoFunction
+  pub reads_none : (program : Program) → IsReadWhole linked input.before.bytes input.after.bytes INPUT_LIMIT (Ok program) → program.functions ≡ [] →
+      RefusesInput linked input NoFunction
   reads_none program read none =
       record { text = read.text; read = has_read read; refused = record { program = program; reads = read.reads; no_one = none } }
 
   -- a refusal
-  pub reads_refusal : (r : Refusal) → IsReadWhole input.before.bytes input.after.bytes INPUT_LIMIT (Err (errors.Refused r)) → RefusesInput input (Refused r)
+  pub reads_refusal : (r : Refusal) → IsReadWhole linked input.before.bytes input.after.bytes INPUT_LIMIT (Err (errors.Refused r)) →
+      RefusesInput linked input (Refused r)
   reads_refusal r read = record { text = read.text; read = has_read read; refused = read.reads }
 
   -- a text that is too long

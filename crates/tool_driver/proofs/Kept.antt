@@ -15,7 +15,7 @@ use Rattle.compile_theorem.proofs.HaveWords.{compiled_has_words}
 use Rattle.compile_theorem.proofs.Headline.{compiled_promises}
 use Rattle.compile_theorem.proofs.IsExact.{compiled_is_exact}
 use Rattle.compile_theorem.proofs.LaidOut.{compiled_is_laid_out, compiled_lists_passed}
-use Rattle.compile_program.specs.Program.{sources_of, IsOutputOf, names_of}
+use Rattle.run_command.specs.Program.{sources_of, IsOutputOf, names_of}
 use Rattle.dwarf_sections.specs.Frame.{IsFrameSection}
 use Rattle.frame_theorem.specs.Laws.{SparesKept}
 use Rattle.frame_theorem.specs.Unwinding.{AllUnwind}
@@ -89,44 +89,44 @@ module _ (steps : List PassStep) (p : Program) (o : Output) (is : IsOutputOf ste
 
 module _ (words : List (List ℕ)) (input output : Change) (finished : Finishes words input output) (plan : CompilePlan)
     (asked : IsCommand words (Compile plan)) where
-  pub headline_kept : KeepsHeadline input output
+  pub headline_kept : KeepsHeadline plan.plan.linked input output
   headline_kept = has_written plan (λ p. Promises (sources_of p.functions)) (promised (plan_steps plan.plan)) words input output finished asked
 
-  pub registers_kept : KeepsRegisters input output
+  pub registers_kept : KeepsRegisters plan.plan.linked input output
   registers_kept =
       has_written plan (λ p. AllGiveBack (sources_of p.functions))
       (λ p o is. gives_back (sources_of p.functions) o (promised (plan_steps plan.plan) p o is)) words input output finished asked
 
-  pub stops_at_returns : StopsAtReturns input output
+  pub stops_at_returns : StopsAtReturns plan.plan.linked input output
   stops_at_returns =
       has_written plan (λ p. AllStopWell (sources_of p.functions))
       (λ p o is. stops_well (sources_of p.functions) o (promised (plan_steps plan.plan) p o is)) words input output finished asked
 
-  pub wrote_unwinding : WroteUnwinding input output
+  pub wrote_unwinding : WroteUnwinding plan.plan.linked input output
   wrote_unwinding =
       has_written plan (λ p. FramesUnwind (sources_of p.functions)) (unwinds (plan_steps plan.plan)) words input output finished asked
 
-  pub wrote_exactly : WroteExactly input output
+  pub wrote_exactly : WroteExactly plan.plan.linked input output
   wrote_exactly = has_written plan (λ p. IsExact) (exact (plan_steps plan.plan)) words input output finished asked
 
-  pub wrote_kept : WroteKept input output
+  pub wrote_kept : WroteKept plan.plan.linked input output
   wrote_kept =
       has_written plan (λ p. AllListKept) (λ p o is. lists_kept o (exact (plan_steps plan.plan) p o is)) words input output finished asked
 
-  pub wrote_laid_out : WroteLaidOut input output
+  pub wrote_laid_out : WroteLaidOut plan.plan.linked input output
   wrote_laid_out =
       has_written plan (λ p. AreLaidOut (names_of p.meta) (sources_of p.functions)) (laid_out (plan_steps plan.plan)) words input output finished asked
 
-  pub wrote_words : WroteWords input output
+  pub wrote_words : WroteWords plan.plan.linked input output
   wrote_words =
       has_written plan (λ p. HaveWords) (λ p o is. compiled_has_words (names_of p.meta) is.functions o (to (plan_steps plan.plan) p o is))
       words input output finished asked
 
-  pub wrote_passed : WrotePassed (plan_steps plan.plan) input output
+  pub wrote_passed : WrotePassed plan.plan.linked (plan_steps plan.plan) input output
   wrote_passed = has_written plan (ShowsPassed (plan_steps plan.plan)) (shows_passed (plan_steps plan.plan)) words input output finished asked
 
-  pub wrote_frame_section : WroteFrameSection plan.frame input output
+  pub wrote_frame_section : WroteFrameSection plan.plan.linked plan.frame input output
   wrote_frame_section = has_written_as plan (λ p o. is_some o.frame ≡ plan.frame) (λ p o is present ranged. present) words input output finished asked
 
-  pub wrote_ranges_section : WroteRangesSection plan.inline input output
+  pub wrote_ranges_section : WroteRangesSection plan.plan.linked plan.inline input output
   wrote_ranges_section = has_written_as plan (λ p o. is_some o.ranges ≡ plan.inline) (λ p o is present ranged. ranged) words input output finished asked

@@ -10,3 +10,6 @@ pub mod Generated
 pub mod Written
 pub mod Plans
 mod Inputs
+pub use Rattle.gen_sizes.proofs.Frames
+pub use Rattle.gen_sizes.proofs.Registers
+pub use Rattle.gen_sizes.proofs.Sections

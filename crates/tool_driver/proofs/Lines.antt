@@ -13,7 +13,7 @@ use Rattle.dwarf_line_table.specs.Laws.{LieFrom}
 use Rattle.mir_func.specs.Function.{Function, FramedFunction}
 use Rattle.read_metadata.specs.Maps.{Maps}
 use Rattle.compile_theorem.specs.Source.{PassedFunction}
-use Rattle.compile_program.specs.Program.{AreCoded, HasSections, Describe}
+use Rattle.run_command.specs.Program.{AreCoded, HasSections, Describe}
 use Rattle.dwarf_line.specs.Spelling.{spelling as rows_spelling}
 use Rattle.dwarf_line_table.specs.Program.{table_with}
 use Rattle.dwarf_line_table.proofs.SourceTables.{no_further}

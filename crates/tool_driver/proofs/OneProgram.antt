@@ -1,7 +1,7 @@
 -- A text that stands for a program is refused nowhere, and stands for no other: its documents are read in the same order to the same
 -- functions, and where a function closes it is refused for its blocks' ends only where they don't end well.
 use Rattle.std.specs.Prelude.{Option, Some, None, Result, Ok, Err}
-use Rattle.std.proofs.Common.{◌≡◌, ℕ, List, [], ◌∷◌, ◌++◌, length, refl, sym, ap, subst, ◌∙◌, inl, inr}
+use Rattle.std.proofs.Common.{◌≡◌, Bool, ℕ, List, [], ◌∷◌, ◌++◌, length, refl, sym, ap, subst, ◌∙◌, inl, inr}
 use Rattle.std.proofs.lemmas.Bool.Decides.{leb_tells}
 use Rattle.read_refusal.specs.declared.first.Refusal.{Refusal}
 use Rattle.read_refusal.specs.declared.kind.RefusalKind.{RefusalKind}
@@ -37,7 +37,7 @@ parts_once line (Err s) (Err t) p r ok err = ok
 
 -- a document isn't both parsed and refused
 parses_once : (meta : Maps) (doc : FunctionDocument) (p : Parsed) (r : Refusal) → Parses meta doc (Ok p) → Parses meta doc (Err (errors.Refused r)) → ⊥
-parses_once meta doc p r ok err = parts_once doc.closed (declarations_of doc) (body_of meta doc.body) p r ok err
+parses_once meta doc p r ok err = parts_once doc.closed (declarations_of doc) (body_of doc.linked meta doc.body) p r ok err
 
 same_parts : (line : ℕ) (declared : Result Declarations Refusal) (body : Result Body Refusal) (p q : Parsed) →
     ParsesParts line declared body (Ok p) → ParsesParts line declared body (Ok q) → p ≡ q
@@ -51,7 +51,7 @@ same_parts line (Err s) (Err t) p q a b = absurd a
 
 -- a document is parsed to one function
 same_function : (meta : Maps) (doc : FunctionDocument) (p q : Parsed) → Parses meta doc (Ok p) → Parses meta doc (Ok q) → p ≡ q
-same_function meta doc p q a b = same_parts doc.closed (declarations_of doc) (body_of meta doc.body) p q a b
+same_function meta doc p q a b = same_parts doc.closed (declarations_of doc) (body_of doc.linked meta doc.body) p q a b
 
 -- ---- all documents
 
@@ -107,9 +107,10 @@ refused_of : (meta : Maps) (functions : Result (List Parsed) ParseError) (r : Re
 refused_of meta (Err e) r is = let cause : e ≡ errors.Refused r = cc in ap (λ (x : ParseError). Err x) cause
 refused_of meta (Ok fs) r is = absurd cc
 
-pub program_not_refused : (text : List ℕ) (program : Program) (r : Refusal) → ReadsText text (Ok program) → IsRefusedAt text r → ⊥
-program_not_refused text program r reads refused =
-    let docs = documents_of text in
+pub program_not_refused : (linked : Bool) (text : List ℕ) (program : Program) (r : Refusal) → ReadsText linked text (Ok program) →
+    IsRefusedAt linked text r → ⊥
+program_not_refused linked text program r reads refused =
+    let docs = documents_of linked text in
     let meta : Maps = metadata_of docs.meta in
     let made = made_of meta docs.bad reads.0 program reads.2 in
     let whole : Err (errors.Refused r) ≡ program_of meta None refused.0 =
@@ -136,9 +137,9 @@ same_functions meta gs fs hs (d ∷ docs) one other = elim (leb_tells MAX_FUNCTI
         longer p more
         (subst (λ (x : Parsed). FunctionsFrom meta (gs ++ x ∷ []) docs (Ok hs)) (same_function meta d q p parsed parses) further)
 
-functions_one : (text : List ℕ) (p q : Program) → ReadsText text (Ok p) → ReadsText text (Ok q) → p.functions ≡ q.functions
-functions_one text p q one other =
-    let docs = documents_of text in
+functions_one : (linked : Bool) (text : List ℕ) (p q : Program) → ReadsText linked text (Ok p) → ReadsText linked text (Ok q) → p.functions ≡ q.functions
+functions_one linked text p q one other =
+    let docs = documents_of linked text in
     let meta : Maps = metadata_of docs.meta in
     let made = made_of meta docs.bad one.0 p one.2 in
     let also = made_of meta docs.bad other.0 q other.2 in
@@ -146,11 +147,11 @@ functions_one text p q one other =
     (subst (λ (x : Result (List Parsed) ParseError). FunctionsFrom meta [] docs.functions x) made.functions_are one.1)
     (subst (λ (x : Result (List Parsed) ParseError). FunctionsFrom meta [] docs.functions x) also.functions_are other.1)
 
-pub programs_one : (text : List ℕ) (p q : Program) → ReadsText text (Ok p) → ReadsText text (Ok q) → p ≡ q
-programs_one text p q one other =
-    let docs = documents_of text in
+pub programs_one : (linked : Bool) (text : List ℕ) (p q : Program) → ReadsText linked text (Ok p) → ReadsText linked text (Ok q) → p ≡ q
+programs_one linked text p q one other =
+    let docs = documents_of linked text in
     let made = made_of (metadata_of docs.meta) docs.bad one.0 p one.2 in
     let also = made_of (metadata_of docs.meta) docs.bad other.0 q other.2 in
-    let functions : p.functions ≡ q.functions = functions_one text p q one other in
+    let functions : p.functions ≡ q.functions = functions_one linked text p q one other in
     let meta : p.meta ≡ q.meta = made.meta_is ∙ sym also.meta_is in
     λ j. record { functions = functions j; meta = meta j }

@@ -20,11 +20,11 @@ use Rattle.read_program.specs.declared.program.Program.{Program}
 use Rattle.read_program.specs.Program.{ReadsText}
 use Rattle.listing_text.specs.declared.output.Output.{Output}
 use Rattle.compile_output_proof.proofs.Functions.{printable}
-use Rattle.compile_program.specs.Program.{IsOutputOf}
+use Rattle.run_command.specs.Program.{IsOutputOf}
 use Rattle.read_proof.proofs.Texts.{programs_are_as_read}
 use Rattle.tool_driver.specs.Limits.{INPUT_LIMIT}
 use Rattle.tool_driver.specs.Compiled.{IsCompiledText, plan_steps}
-use Rattle.tool_driver.specs.Answer.{HasFunctions}
+use Rattle.tool_driver.specs.Answer.{is_linked, HasFunctions}
 use Rattle.tool_driver.specs.Run.{Finishes, HasWritten, AnswersRead, AnswersInput, HasRead, HasReadProgram}
 use Rattle.tool_driver.specs.Refusals.{HasNoFunction, IsReader, IsRefusedAt, IsAnswered, RefusesProgram, IsTooLong}
 use Rattle.tool_driver.specs.Refusals.{Refuses, too_long, refused_at, no_function, refused_program, TellsRefusal, IsInputOf, IsAnswerable}
@@ -41,7 +41,7 @@ record Compiled (plan : CompilePlan) (input output : Change) : Type 0 where
   text : List ℕ
   read : HasRead input text
   program : Program
-  has : HasFunctions text program
+  has : HasFunctions plan.plan.linked text program
   bytes : List ℕ
   compiles : IsCompiledText plan.frame plan.inline (plan_steps plan.plan) program bytes
   written : IsWrittenWhole output bytes
@@ -68,10 +68,11 @@ compiled plan words input output is asked =
 pub has_written_as : (plan : CompilePlan) (P : Program → Output → Type 0) →
     ((program : Program) (o : Output) → IsOutputOf (plan_steps plan.plan) program o → is_some o.frame ≡ plan.frame → is_some o.ranges ≡ plan.inline
     → P program o) →
-    (words : List (List ℕ)) (input output : Change) → Finishes words input output → IsCommand words (Compile plan) → HasWritten P input output
+    (words : List (List ℕ)) (input output : Change) → Finishes words input output → IsCommand words (Compile plan) →
+    HasWritten plan.plan.linked P input output
 has_written_as plan P holds words input output finished asked =
     let is = compiled plan words input output finished asked in
-    let read = programs_are_as_read is.text is.program is.has.reads in
+    let read = programs_are_as_read plan.plan.linked is.text is.program is.has.reads in
     record {
       text = is.text;
       read = is.read;
@@ -86,7 +87,8 @@ has_written_as plan P holds words input output finished asked =
 -- the same of what holds of each such output, whatever sections are asked for
 pub has_written : (plan : CompilePlan) (P : Program → Output → Type 0) →
     ((program : Program) (o : Output) → IsOutputOf (plan_steps plan.plan) program o → P program o) →
-    (words : List (List ℕ)) (input output : Change) → Finishes words input output → IsCommand words (Compile plan) → HasWritten P input output
+    (words : List (List ℕ)) (input output : Change) → Finishes words input output → IsCommand words (Compile plan) →
+    HasWritten plan.plan.linked P input output
 has_written plan P holds = has_written_as plan P (λ program o is framed ranged. holds program o is)
 
 -- ---- the fault by the status
@@ -202,7 +204,7 @@ module _ (command : Command) (input : Change) where
   -- what a command that reads is to answer
   record Asked : Type 0 where
     program : Program
-    has : IsInputOf input.before.bytes program
+    has : IsInputOf (is_linked command) input.before.bytes program
     answered : IsAnswered command program
 
   asked_of : IsReader command → IsAnswerable command input.before.bytes → Asked
@@ -219,23 +221,24 @@ module _ (command : Command) (input : Change) where
       let P : Option (List ℕ) → Type 0 = λ b. TakesCount b input.after.bytes (INPUT_LIMIT + 1) in
       omega (arith, asked.has.within, TakesCount-told asked.has.text input.after.bytes (INPUT_LIMIT + 1) (subst P asked.has.told long.takes))
 
-  not_refused_at : (asked : Asked) (text : List ℕ) (r : Refusal) → HasRead input text → IsRefusedAt text r → ⊥
+  not_refused_at : (asked : Asked) (text : List ℕ) (r : Refusal) → HasRead input text → IsRefusedAt (is_linked command) text r → ⊥
   not_refused_at asked text r read refused =
-      program_not_refused asked.has.text asked.program r asked.has.has.reads
-      (subst (λ (t : List ℕ). IsRefusedAt t r) (text_asked asked text read) refused)
+      program_not_refused (is_linked command) asked.has.text asked.program r asked.has.has.reads
+      (subst (λ (t : List ℕ). IsRefusedAt (is_linked command) t r) (text_asked asked text read) refused)
 
-  has_function : (asked : Asked) (text : List ℕ) → HasRead input text → HasNoFunction text → ⊥
+  has_function : (asked : Asked) (text : List ℕ) → HasRead input text → HasNoFunction (is_linked command) text → ⊥
   has_function asked text read none =
-      let reads : ReadsText asked.has.text (Ok none.program) =
-      subst (λ (t : List ℕ). ReadsText t (Ok none.program)) (text_asked asked text read) none.reads in
-      let same : asked.program ≡ none.program = programs_one asked.has.text asked.program none.program asked.has.has.reads reads in
+      let reads : ReadsText (is_linked command) asked.has.text (Ok none.program) =
+      subst (λ (t : List ℕ). ReadsText (is_linked command) t (Ok none.program)) (text_asked asked text read) none.reads in
+      let same : asked.program ≡ none.program = programs_one (is_linked command) asked.has.text asked.program none.program asked.has.has.reads reads in
       asked.has.has.some (ap (λ (p : Program). p.functions) same ∙ none.no_one)
 
-  program_answered : (asked : Asked) (program : Program) (fault : Fault) → HasReadProgram input program → RefusesProgram command program fault → ⊥
+  program_answered : (asked : Asked) (program : Program) (fault : Fault) → HasReadProgram (is_linked command) input program →
+      RefusesProgram command program fault → ⊥
   program_answered asked program fault read refused =
-      let reads : ReadsText asked.has.text (Ok program) =
-      subst (λ (t : List ℕ). ReadsText t (Ok program)) (text_asked asked read.text read.read) read.has.reads in
-      let same : program ≡ asked.program = programs_one asked.has.text program asked.program reads asked.has.has.reads in
+      let reads : ReadsText (is_linked command) asked.has.text (Ok program) =
+      subst (λ (t : List ℕ). ReadsText (is_linked command) t (Ok program)) (text_asked asked read.text read.read) read.has.reads in
+      let same : program ≡ asked.program = programs_one (is_linked command) asked.has.text program asked.program reads asked.has.has.reads in
       asked.answered fault (subst (λ (p : Program). RefusesProgram command p fault) same refused)
 
   not_refused : {fault : Fault} → IsAnswerable command input.before.bytes → Refuses command input fault → ⊥

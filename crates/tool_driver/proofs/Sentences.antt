@@ -14,8 +14,8 @@ use Rattle.compile_theorem.specs.Laws.{AreCompiledTo}
 use Rattle.compile_theorem.specs.OutputProperties.{Promises, IsExactFor, IsExact}
 use Rattle.compile_theorem.specs.Source.{SourceFunction, sources_among}
 use Rattle.listing_meaning.specs.Program.{program_shown}
-use Rattle.compile_program.specs.Program.{sources_of, IsOutputOf, names_of}
-use Rattle.compile_program.proofs.Passed.{all_passed, passed_sources}
+use Rattle.run_command.specs.Program.{sources_of, IsOutputOf, names_of}
+use Rattle.run_command.proofs.Passed.{all_passed, passed_sources}
 use Rattle.read_proof.specs.Read.{IsReadProgram}
 use Rattle.tool_driver.specs.Compiled.{IsCompiledText}
 use Rattle.tool_driver.specs.FurtherPromises.{AllGiveBack, AllStopWell, ListsKept, AllListKept}

@@ -46,7 +46,7 @@ module _ (words : List (List ℕ)) (input output : Change) (finished : Finishes 
         is = record {
           made = file.output;
           is = file.is;
-          promises = keeps_promises (plan_steps plan) answers.answers.program file.output file.is;
+          promises = keeps_promises (plan_steps plan) answers.answers.program file.output file.is.made;
           object = file.object;
         };
         written = finished.written;

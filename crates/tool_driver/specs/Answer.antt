@@ -1,5 +1,5 @@
 -- What a command writes for a program, and for the text of one.
-use Rattle.std.specs.Prelude.{◌≡◌, ◌≢◌, ℕ, List, [], Ok}
+use Rattle.std.specs.Prelude.{◌≡◌, Bool, false, ◌≢◌, ℕ, List, [], Ok}
 use Rattle.read_program.specs.declared.program.Program.{Program}
 use Rattle.read_program.specs.Program.{ReadsText}
 use Rattle.strip_command.specs.StripText.{stripped_text}
@@ -11,9 +11,20 @@ use Rattle.run_command.specs.Source.{IsRunOfProgram}
 use Rattle.selftest_command.specs.Tested.{IsSelfTestOf}
 use Rattle.tool_driver.specs.Compiled.{plan_steps, IsCompiledText, IsListingText, IsObjectFile}
 
--- the text is read as this program, which has a function
-pub record HasFunctions (text : List ℕ) (program : Program) : Type 0 where
-  pub reads : ReadsText text (Ok program)
+-- whether a command reads the linked language
+abbrev pub is_linked : Command → Bool
+is_linked (Compile asked) = asked.plan.linked
+is_linked (Listing plan) = plan.linked
+is_linked (Report plan) = plan.linked
+is_linked (Object plan) = plan.linked
+is_linked (Run run) = run.plan.linked
+is_linked (Strip linked) = linked
+is_linked (Gen g) = false
+is_linked (SelfTest test) = false
+
+-- the text is read as this program, which has a function; `linked` is whether the linked language is read
+pub record HasFunctions (linked : Bool) (text : List ℕ) (program : Program) : Type 0 where
+  pub reads : ReadsText linked text (Ok program)
   pub some : program.functions ≢ []
 
 -- what a command writes for a program; a command that reads no input writes nothing for any
@@ -22,15 +33,15 @@ Answers (Compile asked) program output = IsCompiledText asked.frame asked.inline
 Answers (Listing plan) program output = IsListingText (plan_steps plan) program output
 Answers (Report plan) program output = IsReportText plan.reserve plan.passes program output
 Answers (Object plan) program output = IsObjectFile (plan_steps plan) program output
-Answers (Run run) program output = IsRunOfProgram (plan_steps run.plan) program run.name run.steps run.arguments run.answers output
-Answers Strip program output = output ≡ stripped_text program.functions
+Answers (Run run) program output = IsRunOfProgram (plan_steps run.plan) program run.name run.steps run.symbols run.arguments run.answers output
+Answers (Strip linked) program output = output ≡ stripped_text program.functions
 Answers (Gen g) program output = ⊥
 Answers (SelfTest test) program output = ⊥
 
 -- the text is read as a program with a function, and this is what the command writes for it
 pub record AnswersText (command : Command) (text output : List ℕ) : Type 0 where
   pub program : Program
-  pub has : HasFunctions text program
+  pub has : HasFunctions (is_linked command) text program
   pub answers : Answers command program output
 
 -- the text that a self-test writes

@@ -7,3 +7,4 @@ pub mod Answer
 pub mod Run
 pub mod Refusals
 pub mod steps
+pub use Rattle.run_command.specs.Program

@@ -1,11 +1,10 @@
 -- Why a command is refused, and that it is answered where nothing refuses it.
-use Rattle.std.specs.Prelude.{◌≡◌, true, ℕ, ◌+◌, ◌≤◌, List, [], length, Option, Some, None, Ok, Err}
+use Rattle.std.specs.Prelude.{◌≡◌, Bool, true, ℕ, ◌+◌, ◌≤◌, List, [], length, Option, Some, None, Ok, Err}
 use Rattle.read_refusal.specs.declared.first.Refusal.{Refusal}
 use Rattle.read_program.specs.declared.program.Program.{Program}
 use Rattle.read_program.specs.declared.error.ParseError.TheVariants as errors
 use Rattle.read_program.specs.Program.{ReadsText}
-use Rattle.compile_program.specs.Program.{HaveRegisters, HasVirtualRegister, HasLargeFrame, HasLargeSection, HasLargeFrameSection}
-use Rattle.compile_program.specs.Program.{HasLargeInlinedSection}
+use Rattle.run_command.specs.Program.{HaveRegisters, HasVirtualRegister, HasLargeFrame, HasLargeSection, HasLargeFrameSection, HasLargeInlinedSection}
 use Rattle.cli.specs.declared.command.Command.{Command}
 use Rattle.cli.specs.declared.fault.Fault.{Fault}
 use Rattle.cli.specs.declared.command.CompilePlan.{CompilePlan}
@@ -22,7 +21,7 @@ use Rattle.run_command.specs.Source.{IsUnknown}
 use Rattle.tool_driver.specs.Limits.{INPUT_LIMIT}
 use Rattle.tool_driver.specs.Compiled.{plan_steps, HasInvalidName, IsLargeObjectOf}
 use Rattle.tool_driver.specs.Stream.{Change, IsReadFor, IsTold}
-use Rattle.tool_driver.specs.Answer.{HasFunctions}
+use Rattle.tool_driver.specs.Answer.{is_linked, HasFunctions}
 use Rattle.tool_driver.specs.Run.{HasRead, HasReadProgram}
 
 -- the commands that read the input
@@ -32,7 +31,7 @@ IsReader (Listing plan) = Unit {0}
 IsReader (Report plan) = Unit {0}
 IsReader (Object plan) = Unit {0}
 IsReader (Run run) = Unit {0}
-IsReader Strip = Unit {0}
+IsReader (Strip linked) = Unit {0}
 IsReader (Gen g) = ⊥
 IsReader (SelfTest test) = ⊥
 
@@ -40,14 +39,14 @@ IsReader (SelfTest test) = ⊥
 abbrev pub IsTooLong : (input : Change) → Type 0
 IsTooLong input = IsReadFor input (INPUT_LIMIT + 1)
 
--- the text is refused at a line, for a cause
-abbrev pub IsRefusedAt : (text : List ℕ) → Refusal → Type 0
-IsRefusedAt text r = ReadsText text (Err (errors.Refused r))
+-- the text is refused at a line, for a cause; `linked` is whether the linked language is read
+abbrev pub IsRefusedAt : (linked : Bool) → (text : List ℕ) → Refusal → Type 0
+IsRefusedAt linked text r = ReadsText linked text (Err (errors.Refused r))
 
 -- the text is read as a program without functions
-pub record HasNoFunction (text : List ℕ) : Type 0 where
+pub record HasNoFunction (linked : Bool) (text : List ℕ) : Type 0 where
   pub program : Program
-  pub reads : ReadsText text (Ok program)
+  pub reads : ReadsText linked text (Ok program)
   pub no_one : program.functions ≡ []
 
 -- the passes by which a command compiles what it reads, if it does
@@ -57,7 +56,7 @@ plan_of (Listing plan) = Some plan
 plan_of (Report plan) = Some plan
 plan_of (Object plan) = Some plan
 plan_of (Run run) = Some run.plan
-plan_of Strip = None
+plan_of (Strip linked) = None
 plan_of (Gen g) = None
 plan_of (SelfTest test) = None
 
@@ -87,9 +86,11 @@ pub data RefusesProgram (command : Command) (program : Program) : Fault → Type
 -- Why a command is refused: its input is too long, is refused at a line or has no function; or the program that was read is refused.
 pub data Refuses (command : Command) (input : Change) : Fault → Type 0 where
   too_long : IsReader command → IsTooLong input → Refuses command input TooLong
-  refused_at : (text : List ℕ) (r : Refusal) → IsReader command → HasRead input text → IsRefusedAt text r → Refuses command input (Refused r)
-  no_function : (text : List ℕ) → IsReader command → HasRead input text → HasNoFunction text → Refuses command input NoFunction
-  refused_program : {fault : Fault} (program : Program) → IsReader command → HasReadProgram input program → RefusesProgram command program fault →
+  refused_at : (text : List ℕ) (r : Refusal) → IsReader command → HasRead input text → IsRefusedAt (is_linked command) text r →
+      Refuses command input (Refused r)
+  no_function : (text : List ℕ) → IsReader command → HasRead input text → HasNoFunction (is_linked command) text → Refuses command input NoFunction
+  refused_program : {fault : Fault} (program : Program) → IsReader command → HasReadProgram (is_linked command) input program →
+      RefusesProgram command program fault →
       Refuses command input fault
 
 -- the words are a command, which is refused, and the line for that fault is written to `faults`
@@ -105,14 +106,14 @@ abbrev pub IsAnswered : Command → Program → Type 0
 IsAnswered command program = (fault : Fault) → RefusesProgram command program fault → ⊥
 
 -- the bytes of the input are known, within the limit, and read as this program, which has a function
-pub record IsInputOf (left : Option (List ℕ)) (program : Program) : Type 0 where
+pub record IsInputOf (linked : Bool) (left : Option (List ℕ)) (program : Program) : Type 0 where
   pub text : List ℕ
   pub told : left ≡ Some text
   pub within : length text ≤ INPUT_LIMIT
-  pub has : HasFunctions text program
+  pub has : HasFunctions linked text program
 
 -- the inputs for which a command writes output: any, if it makes its function up; else those that are read as a program that nothing refuses
 pub data IsAnswerable (command : Command) (left : Option (List ℕ)) : Type 0 where
   generates : (g : Generation) → command ≡ Gen g → IsAnswerable command left
   tests : (test : TestPlan) → command ≡ SelfTest test → IsAnswerable command left
-  answers : (program : Program) → IsReader command → IsInputOf left program → IsAnswered command program → IsAnswerable command left
+  answers : (program : Program) → IsReader command → IsInputOf (is_linked command) left program → IsAnswered command program → IsAnswerable command left

@@ -1,5 +1,5 @@
 -- What a run of the tool did to its input and its output.
-use Rattle.std.specs.Prelude.{◌≡◌, ℕ, ◌≤◌, Bool, List, length, All, IfSome, is_some}
+use Rattle.std.specs.Prelude.{◌≡◌, ℕ, ◌≤◌, Bool, false, List, length, All, IfSome, is_some}
 use Rattle.listing_text.specs.declared.output.Output.{Output}
 use Rattle.pass_trait.specs.Steps.{PassStep}
 use Rattle.listing_text.specs.Shown.{OfShown}
@@ -18,13 +18,13 @@ use Rattle.readback_functions.specs.Bytes.{AreBytes}
 use Rattle.readback_strip.specs.Text.{stripped_program}
 use Rattle.strip_command.specs.StripText.{stripped_text}
 use Rattle.tool_driver.specs.Limits.{INPUT_LIMIT}
-use Rattle.tool_driver.specs.Compiled.{plan_steps}
+use Rattle.tool_driver.specs.Compiled.{plan_steps, IsPlainOutputOf}
 use Rattle.tool_driver.specs.Answer.{HasFunctions, AnswersText, IsTestText}
 use Rattle.compile_theorem.specs.OutputProperties.{AreLaidOut, Promises, IsExact, ListsPassed}
 use Rattle.compile_theorem.specs.Source.{PassedFunction}
 use Rattle.compile_theorem.specs.Words.{HaveWords}
 use Rattle.object_command.specs.Object.{IsObjectOf}
-use Rattle.compile_program.specs.Program.{sources_of, ArePassed, HasSections, IsMadeBy, IsOutputOf, names_of}
+use Rattle.run_command.specs.Program.{sources_of, ArePassed, HasSections, IsMadeBy, names_of}
 use Rattle.compile_output_proof.specs.Inlined.{TellsInlinedLines}
 use Rattle.tool_driver.specs.Lines.{GivesLines}
 use Rattle.tool_driver.specs.FurtherPromises.{AllGiveBack, AllStopWell, FramesUnwind, AllListKept}
@@ -40,11 +40,11 @@ pub record HasRead (input : Change) (text : List ℕ) : Type 0 where
   pub within : length text ≤ INPUT_LIMIT
   pub bytes : AreBytes text
 
--- the input was read as this program, which has a function
-pub record HasReadProgram (input : Change) (program : Program) : Type 0 where
+-- the input was read as this program, which has a function; `linked` is whether the linked language is read
+pub record HasReadProgram (linked : Bool) (input : Change) (program : Program) : Type 0 where
   pub text : List ℕ
   pub read : HasRead input text
-  pub has : HasFunctions text program
+  pub has : HasFunctions linked text program
 
 -- the input was read, and this is what the command writes for it
 pub record AnswersRead (command : Command) (input : Change) (output : List ℕ) : Type 0 where
@@ -59,7 +59,7 @@ AnswersInput (Listing plan) input output = AnswersRead (Listing plan) input outp
 AnswersInput (Report plan) input output = AnswersRead (Report plan) input output
 AnswersInput (Object plan) input output = AnswersRead (Object plan) input output
 AnswersInput (Run run) input output = AnswersRead (Run run) input output
-AnswersInput Strip input output = AnswersRead Strip input output
+AnswersInput (Strip linked) input output = AnswersRead (Strip linked) input output
 AnswersInput (Gen g) input output = IsUnread input × (output ≡ generated_text g.number g.blocks)
 AnswersInput (SelfTest test) input output = IsUnread input × IsTestText test output
 
@@ -82,51 +82,51 @@ pub record IsCutOff (words : List (List ℕ)) (input output : Change) : Type 0 w
   pub front : IsWrittenInPart output text
 
 -- the input was read as a program with a function, bytes were written, and `P` holds of every output that they are the text of (there is one)
-pub record HasWritten (P : Program → Output → Type 0) (input output : Change) : Type 0 where
+pub record HasWritten (linked : Bool) (P : Program → Output → Type 0) (input output : Change) : Type 0 where
   pub text : List ℕ
   pub read : HasRead input text
   pub program : Program
-  pub has : HasFunctions text program
+  pub has : HasFunctions linked text program
   pub bytes : List ℕ
   pub written : IsWrittenWhole output bytes
   pub shown : OfShown (inlined_in program.meta) (P program) bytes
 
--- The main theorem, for each function in the input and the bytes written: from every start, for every script of call answers and every number of steps, the
--- machine on the code in the bytes is at the source position that their lines say, with the source's events and result, and each location in their location
--- lists holds the variable's newest assignment.
-abbrev pub KeepsHeadline : (input output : Change) → Type 0
-KeepsHeadline input output = HasWritten (λ p. Promises (sources_of p.functions)) input output
+-- The main theorem, for each function in the input, in the language that is read, and the bytes written: from every start, for every script of call answers
+-- and every number of steps, the machine on the code in the bytes is at the source position that their lines say, with the source's events and result, and
+-- each location in their location lists holds the variable's newest assignment.
+abbrev pub KeepsHeadline : (linked : Bool) → (input output : Change) → Type 0
+KeepsHeadline linked input output = HasWritten linked (λ p. Promises (sources_of p.functions)) input output
 
 -- at each return of a function, the registers that it has to preserve have the values from its start
-abbrev pub KeepsRegisters : (input output : Change) → Type 0
-KeepsRegisters input output = HasWritten (λ p. AllGiveBack (sources_of p.functions)) input output
+abbrev pub KeepsRegisters : (linked : Bool) → (input output : Change) → Type 0
+KeepsRegisters linked input output = HasWritten linked (λ p. AllGiveBack (sources_of p.functions)) input output
 
--- the machine on a function's code stops only where its run ends (in what is read: at a return), or where it waits for the answer of a call
-abbrev pub StopsAtReturns : (input output : Change) → Type 0
-StopsAtReturns input output = HasWritten (λ p. AllStopWell (sources_of p.functions)) input output
+-- the machine on a function's code stops only where its run ends, or where it waits for the answer of a call
+abbrev pub StopsAtReturns : (linked : Bool) → (input output : Change) → Type 0
+StopsAtReturns linked input output = HasWritten linked (λ p. AllStopWell (sources_of p.functions)) input output
 
 -- At each line that the machine on a function's code comes to, the section `.debug_frame`, if it was written, unwinds to the function's start: by its rules the
 -- stack pointer, the return address and the callee-saved registers have their values there.
-abbrev pub WroteUnwinding : (input output : Change) → Type 0
-WroteUnwinding input output = HasWritten (λ p. FramesUnwind (sources_of p.functions)) input output
+abbrev pub WroteUnwinding : (linked : Bool) → (input output : Change) → Type 0
+WroteUnwinding linked input output = HasWritten linked (λ p. FramesUnwind (sources_of p.functions)) input output
 
 -- At the address of each byte of a listed line, the location lists have for each part of a variable the wanted location, and none exactly if none is
 -- wanted. They have none at any other address.
-abbrev pub WroteExactly : (input output : Change) → Type 0
-WroteExactly input output = HasWritten (λ p. IsExact) input output
+abbrev pub WroteExactly : (linked : Bool) → (input output : Change) → Type 0
+WroteExactly linked input output = HasWritten linked (λ p. IsExact) input output
 
 -- while a location keeps the value of a debug value, the location lists don't leave that part of the variable without a location
-abbrev pub WroteKept : (input output : Change) → Type 0
-WroteKept input output = HasWritten (λ p. AllListKept) input output
+abbrev pub WroteKept : (linked : Bool) → (input output : Change) → Type 0
+WroteKept linked input output = HasWritten linked (λ p. AllListKept) input output
 
 -- The output lists the functions in the input, in order: each with its name, stack objects and variables, and with its lines contiguous from its first
 -- address to its end. Location lists are numbered through all functions, and variables have their names in the metadata.
-abbrev pub WroteLaidOut : (input output : Change) → Type 0
-WroteLaidOut input output = HasWritten (λ p. AreLaidOut (names_of p.meta) (sources_of p.functions)) input output
+abbrev pub WroteLaidOut : (linked : Bool) → (input output : Change) → Type 0
+WroteLaidOut linked input output = HasWritten linked (λ p. AreLaidOut (names_of p.meta) (sources_of p.functions)) input output
 
 -- each line with an address has the encoding of its instruction at that address
-abbrev pub WroteWords : (input output : Change) → Type 0
-WroteWords input output = HasWritten (λ p. HaveWords) input output
+abbrev pub WroteWords : (linked : Bool) → (input output : Change) → Type 0
+WroteWords linked input output = HasWritten linked (λ p. HaveWords) input output
 
 -- Each function that was read was transformed by these passes, and the result, which simulates it, is the one that is compiled and listed, with its frame
 -- and its substitutions. The `.debug_info`, abbreviation and line sections are the encodings of the program's unit and line table, and `.debug_frame`, if
@@ -142,23 +142,23 @@ pub record ShowsPassed (steps : List PassStep) (p : Program) (o : Output) : Type
   pub inlined : IfSome o.ranges (TellsInlinedLines p functions o)
 
 -- the sections have `.debug_frame` exactly if it is asked for
-abbrev pub WroteFrameSection : (with_frame : Bool) → (input output : Change) → Type 0
-WroteFrameSection with_frame input output = HasWritten (λ p o. is_some o.frame ≡ with_frame) input output
+abbrev pub WroteFrameSection : (linked with_frame : Bool) → (input output : Change) → Type 0
+WroteFrameSection linked with_frame input output = HasWritten linked (λ p o. is_some o.frame ≡ with_frame) input output
 
 -- the sections have `.debug_rnglists` exactly if inlined functions are asked for
-abbrev pub WroteRangesSection : (with_inline : Bool) → (input output : Change) → Type 0
-WroteRangesSection with_inline input output = HasWritten (λ p o. is_some o.ranges ≡ with_inline) input output
+abbrev pub WroteRangesSection : (linked with_inline : Bool) → (input output : Change) → Type 0
+WroteRangesSection linked with_inline input output = HasWritten linked (λ p o. is_some o.ranges ≡ with_inline) input output
 
 -- the whole text of one such output was written
-abbrev pub WrotePassed : List PassStep → (input output : Change) → Type 0
-WrotePassed steps input output = HasWritten (ShowsPassed steps) input output
+abbrev pub WrotePassed : (linked : Bool) → List PassStep → (input output : Change) → Type 0
+WrotePassed linked steps input output = HasWritten linked (ShowsPassed steps) input output
 
 -- the input was read as a program with a function, and the bytes written are the text `Is` requires for it
-pub record WroteText (Is : Program → (text : List ℕ) → Type 0) (input output : Change) : Type 0 where
+pub record WroteText (linked : Bool) (Is : Program → (text : List ℕ) → Type 0) (input output : Change) : Type 0 where
   pub text : List ℕ
   pub read : HasRead input text
   pub program : Program
-  pub has : HasFunctions text program
+  pub has : HasFunctions linked text program
   pub bytes : List ℕ
   pub is : Is program bytes
   pub written : IsWrittenWhole output bytes
@@ -176,25 +176,25 @@ pub record KeepsPromises (steps : List PassStep) (p : Program) (o : Output) : Ty
   pub words : HaveWords o
   pub passed : ShowsPassed steps p o
 
--- The bytes are the object of an output of the program after these steps, which keeps the promises.
+-- The bytes are the object of an output of the program after these steps, without `.debug_frame` and inlined functions, which keeps the promises.
 pub record IsKeptObject (steps : List PassStep) (p : Program) (bytes : List ℕ) : Type 0 where
   pub made : Output
-  pub is : IsOutputOf steps p made
+  pub is : IsPlainOutputOf steps p made
   pub promises : KeepsPromises steps p made
   pub object : IsObjectOf made bytes
 
 -- the object of the functions after the plan's passes was written
 abbrev pub WroteObject : PassPipeline → (input output : Change) → Type 0
-WroteObject plan input output = WroteText (IsKeptObject (plan_steps plan)) input output
+WroteObject plan input output = WroteText plan.linked (IsKeptObject (plan_steps plan)) input output
 
 -- the report of the functions after the plan's passes was written
 abbrev pub WroteReport : PassPipeline → (input output : Change) → Type 0
-WroteReport plan input output = WroteText (IsReportText plan.reserve plan.passes) input output
+WroteReport plan input output = WroteText plan.linked (IsReportText plan.reserve plan.passes) input output
 
 -- the text of the requested run was written
 abbrev pub WroteRun : RunPlan → (input output : Change) → Type 0
 WroteRun run input output =
-    WroteText (λ p. IsRunOfProgram (plan_steps run.plan) p run.name run.steps run.arguments run.answers) input output
+    WroteText run.plan.linked (λ p. IsRunOfProgram (plan_steps run.plan) p run.name run.steps run.symbols run.arguments run.answers) input output
 
 -- the text of the requested self-test was written
 pub record WroteTest (test : TestPlan) (output : Change) : Type 0 where
@@ -202,13 +202,16 @@ pub record WroteTest (test : TestPlan) (output : Change) : Type 0 where
   pub is : IsTestText test text
   pub written : IsWrittenWhole output text
 
--- The input was read, and its functions were written without debug items. What was written can be read: as the program without debug items, for which
--- `strip` writes the same text again.
-pub record WroteStripped (input output : Change) : Type 0 where
+-- What was written can be read: as the program without debug items, for which `strip` writes the same text again.
+pub record IsReadAgain (program : Program) : Type 0 where
+  pub reads : HasFunctions false (stripped_text program.functions) (stripped_program program)
+  pub again : AnswersText (Strip false) (stripped_text program.functions) (stripped_text program.functions)
+
+-- The input was read, and its functions were written without debug items. Where the linked language isn't read, what was written can be read.
+pub record WroteStripped (linked : Bool) (input output : Change) : Type 0 where
   pub text : List ℕ
   pub read : HasRead input text
   pub program : Program
-  pub has : HasFunctions text program
+  pub has : HasFunctions linked text program
   pub written : IsWrittenWhole output (stripped_text program.functions)
-  pub reads : HasFunctions (stripped_text program.functions) (stripped_program program)
-  pub again : AnswersText Strip (stripped_text program.functions) (stripped_text program.functions)
+  pub again : linked ≡ false → IsReadAgain program

@@ -7,19 +7,19 @@ ghost use Rattle.cli.specs.Command.{IsWithin};
 ghost use Rattle.cli.specs.declared.command.Command.TheVariants as command;
 ghost use Rattle.tool_driver.specs.Answer.{IsTestText};
 ghost use Rattle.tool_driver.specs.steps.Ends.{RefusesToCompile, RefusesToWrite};
-ghost use Rattle.tool_driver.specs.Compiled.{plan_steps, IsCompiledText, IsListingText, IsObjectFile};
-ghost use Rattle.compile_program.specs.Program.{IsOutputOf, IsCompilationOf};
+ghost use Rattle.tool_driver.specs.Compiled.{plan_steps, IsPlainOutputOf, IsCompiledText, IsListingText, IsObjectFile};
+ghost use Rattle.run_command.specs.Program.{IsOutputOf, IsCompilationOf};
 ghost use Rattle.read_proof.specs.Read.{IsReadProgram};
 
 use cli::command::{CompilePlan, PassPipeline, RunPlan, TestPlan};
 use cli::fault::Fault;
-use compile_function::error::CompileError;
-use compile_program::compile::{Compilation, compile, compile_with};
 use listing_text::print::{print_listing, print_output};
 use mir_printer::text::Text;
 use object_command::object::{ObjectError, object};
 use read_program::program::Program;
 use report_command::report::report;
+use run_command::compile::{Compilation, compile, compile_with};
+use run_command::error::CompileError;
 use run_command::name::is_unknown;
 use run_command::run::run;
 use selftest_command::text::self_test;
@@ -75,7 +75,7 @@ fn object_in(
     _plan: &PassPipeline,
     compilation: Compilation,
 ) -> Result<Text, Fault>
-    requires { IsOutputOf (plan_steps _plan.now) _program.now compilation.output }
+    requires { IsPlainOutputOf (plan_steps _plan.now) _program.now compilation.output }
     ensures ok { IfOk result (IsObjectFile (plan_steps _plan.now) _program.now) }
     ensures err { IfErr result (RefusesToWrite (command.Object _plan.now) _program.now) }
 {
@@ -95,7 +95,7 @@ fn object_in(
 pub fn run_text(alloc: Global, program: &Program, asked: RunPlan) -> Result<Text, Fault>
     requires { IsReadProgram program.now }
     ensures ok { IfOk result (IsRunOfProgram (plan_steps asked.plan) program.now asked.name asked.steps
-        asked.arguments asked.answers) }
+        asked.symbols asked.arguments asked.answers) }
     ensures err { IfErr result (RefusesToWrite (command.Run asked) program.now) }
 {
     if is_unknown(program.functions.as_slice(), asked.name.as_slice()) {
@@ -117,7 +117,7 @@ fn run_of(
     requires output { IsOutputOf (plan_steps asked.plan) _program.now compilation.now.output }
     requires compilation { IsCompilationOf asked.plan.reserve asked.plan.passes _program.now compilation.now }
     ensures ok { IfOk result (IsRunOfProgram (plan_steps asked.plan) _program.now asked.name asked.steps
-        asked.arguments asked.answers) }
+        asked.symbols asked.arguments asked.answers) }
     ensures err { IfErr result (RefusesToWrite (command.Run asked) _program.now) }
 {
     let RunPlan {
@@ -126,12 +126,14 @@ fn run_of(
         plan: _plan,
         arguments,
         answers,
+        symbols,
     } = asked;
     match run(
         alloc,
         compilation,
         name.as_slice(),
         steps,
+        symbols,
         arguments.as_slice(),
         answers,
     ) {
@@ -173,6 +175,7 @@ fn compilation(alloc: Global, program: &Program, plan: &PassPipeline) -> Result<
     ensures output { IfOk result (λ c. IsOutputOf (plan_steps plan.now) program.now c.output) }
     ensures compilation { IfOk result (IsCompilationOf plan.now.reserve plan.now.passes program.now) }
     ensures no_frame_section { IfOk result (λ c. is_some c.output.frame ≡ false) }
+    ensures no_ranges_section { IfOk result (λ c. is_some c.output.ranges ≡ false) }
     ensures err { IfErr result (RefusesToCompile plan.now program.now) }
 {
     match compile(

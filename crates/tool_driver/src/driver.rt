@@ -1,6 +1,6 @@
 //! The run of a command.
 
-ghost use Rattle.std.specs.Prelude.{◌≡◌, ◌≢◌, ◌≤◌, ◌⊎◌, [], IfOk, OnOk, IfErr, IsErrOf, map, string_bytes};
+ghost use Rattle.std.specs.Prelude.{◌≡◌, ◌≢◌, ◌≤◌, ◌⊎◌, [], Bool, IfOk, OnOk, IfErr, IsErrOf, map, string_bytes};
 ghost use Rattle.cli.specs.Command.{AreWithin, IsCommand};
 ghost use Rattle.cli.specs.declared.command.CompilePlan.{CompilePlan};
 ghost use Rattle.cli.specs.declared.command.PassPipeline.{PassPipeline};
@@ -72,52 +72,60 @@ pub fn mirdwarf<S: Source, K: Sink, E: Sink>(
     // read, and the written lists tell the truth.
     ensures headline { (plan : CompilePlan) → result ≡ Status.Done →
         IsCommand (map string_bytes words.now) (Command.Compile plan) →
-        KeepsHeadline (change S.left S.faults input.old input.new) (change K.written K.faults output.old output.new) }
+        KeepsHeadline plan.plan.linked (change S.left S.faults input.old input.new)
+        (change K.written K.faults output.old output.new) }
     // At a return the machine gives back the registers that a function is to keep.
     ensures callee_saved { (plan : CompilePlan) → result ≡ Status.Done →
         IsCommand (map string_bytes words.now) (Command.Compile plan) →
-        KeepsRegisters (change S.left S.faults input.old input.new) (change K.written K.faults output.old output.new) }
-    // It stops only where its run ends (in what is read: at a return), or where it waits for the answer of a call.
+        KeepsRegisters plan.plan.linked (change S.left S.faults input.old input.new)
+        (change K.written K.faults output.old output.new) }
+    // It stops only where its run ends, or where it waits for the answer of a call.
     ensures stops { (plan : CompilePlan) → result ≡ Status.Done →
         IsCommand (map string_bytes words.now) (Command.Compile plan) →
-        StopsAtReturns (change S.left S.faults input.old input.new) (change K.written K.faults output.old output.new) }
+        StopsAtReturns plan.plan.linked (change S.left S.faults input.old input.new)
+        (change K.written K.faults output.old output.new) }
     // The lists say the place of a variable's value wherever the value is in one on every path, and nothing elsewhere.
     ensures exact { (plan : CompilePlan) → result ≡ Status.Done →
         IsCommand (map string_bytes words.now) (Command.Compile plan) →
-        WroteExactly (change S.left S.faults input.old input.new) (change K.written K.faults output.old output.new) }
+        WroteExactly plan.plan.linked (change S.left S.faults input.old input.new)
+        (change K.written K.faults output.old output.new) }
     // While a place keeps the value that a mark told of it, the lists give the variable a place.
     ensures kept { (plan : CompilePlan) → result ≡ Status.Done →
         IsCommand (map string_bytes words.now) (Command.Compile plan) →
-        WroteKept (change S.left S.faults input.old input.new) (change K.written K.faults output.old output.new) }
+        WroteKept plan.plan.linked (change S.left S.faults input.old input.new)
+        (change K.written K.faults output.old output.new) }
     // Functions, lines, objects and variables stand where they should, with their names.
     ensures laid_out { (plan : CompilePlan) → result ≡ Status.Done →
         IsCommand (map string_bytes words.now) (Command.Compile plan) →
-        WroteLaidOut (change S.left S.faults input.old input.new) (change K.written K.faults output.old output.new) }
+        WroteLaidOut plan.plan.linked (change S.left S.faults input.old input.new)
+        (change K.written K.faults output.old output.new) }
     // At each line with an address stand the bytes of its instruction.
     ensures words { (plan : CompilePlan) → result ≡ Status.Done →
         IsCommand (map string_bytes words.now) (Command.Compile plan) →
-        WroteWords (change S.left S.faults input.old input.new) (change K.written K.faults output.old output.new) }
+        WroteWords plan.plan.linked (change S.left S.faults input.old input.new)
+        (change K.written K.faults output.old output.new) }
     // The lines show the functions that passes made of those that were read, with their frames: without passes, those
     // that were read. The other sections are those of the program's unit, of its table of lines, which gives each byte
     // of machine code its line of the source, and of the call frame information of its machine code.
     ensures passed { (plan : CompilePlan) → result ≡ Status.Done →
         IsCommand (map string_bytes words.now) (Command.Compile plan) →
-        WrotePassed (plan_steps plan.plan) (change S.left S.faults input.old input.new)
+        WrotePassed plan.plan.linked (plan_steps plan.plan) (change S.left S.faults input.old input.new)
         (change K.written K.faults output.old output.new) }
     // `.debug_frame`, the section of call frame information, is among them with `--frame`, and isn't without it.
     ensures frame_section { (plan : CompilePlan) → result ≡ Status.Done →
         IsCommand (map string_bytes words.now) (Command.Compile plan) →
-        WroteFrameSection plan.frame (change S.left S.faults input.old input.new)
+        WroteFrameSection plan.plan.linked plan.frame (change S.left S.faults input.old input.new)
         (change K.written K.faults output.old output.new) }
     // At each line that the machine comes to it unwinds to the function's start: its rules find what the stack pointer,
     // the return address and the registers that a function is to keep were there.
     ensures unwinds { (plan : CompilePlan) → result ≡ Status.Done →
         IsCommand (map string_bytes words.now) (Command.Compile plan) →
-        WroteUnwinding (change S.left S.faults input.old input.new) (change K.written K.faults output.old output.new) }
+        WroteUnwinding plan.plan.linked (change S.left S.faults input.old input.new)
+        (change K.written K.faults output.old output.new) }
     // `.debug_rnglists`, the section of the ranges of inlined functions, is among them with `--inline` alone.
     ensures ranges_section { (plan : CompilePlan) → result ≡ Status.Done →
         IsCommand (map string_bytes words.now) (Command.Compile plan) →
-        WroteRangesSection plan.inline (change S.left S.faults input.old input.new)
+        WroteRangesSection plan.plan.linked plan.inline (change S.left S.faults input.old input.new)
         (change K.written K.faults output.old output.new) }
 
     // What `report` writes is the report of what passes made of the functions that were read: of each the words of its
@@ -139,10 +147,12 @@ pub fn mirdwarf<S: Source, K: Sink, E: Sink>(
     ensures ran { (plan : RunPlan) → result ≡ Status.Done → IsCommand (map string_bytes words.now) (Command.Run plan) →
         WroteRun plan (change S.left S.faults input.old input.new) (change K.written K.faults output.old output.new) }
 
-    // What `strip` writes is read in turn: it stands for the program without its debug items, and `strip` writes the
-    // same text of it again.
-    ensures stripped { result ≡ Status.Done → IsCommand (map string_bytes words.now) Command.Strip →
-        WroteStripped (change S.left S.faults input.old input.new) (change K.written K.faults output.old output.new) }
+    // `strip` writes the functions that were read without their debug items. Without `--linked` what it writes is read
+    // in turn: it stands for the program without its debug items, and `strip` writes the same text of it again.
+    ensures stripped { (linked : Bool) → result ≡ Status.Done →
+        IsCommand (map string_bytes words.now) (Command.Strip linked) →
+        WroteStripped linked (change S.left S.faults input.old input.new)
+        (change K.written K.faults output.old output.new) }
 
     // `gen` reads nothing, and writes the text of the function that its words ask for.
     ensures generated { (g : Generation) → result ≡ Status.Done →
@@ -235,27 +245,27 @@ fn answered<S: Source>(alloc: Global, command: Command, input: &mut S) -> Result
 {
     match command {
         Command::Compile(plan) => {
-            let program = read(alloc, input)?;
+            let program = read(alloc, plan.plan.linked, input)?;
             compiled_text(alloc, &program, &plan)
         }
         Command::Listing(plan) => {
-            let program = read(alloc, input)?;
+            let program = read(alloc, plan.linked, input)?;
             listing_text(alloc, &program, &plan)
         }
         Command::Report(plan) => {
-            let program = read(alloc, input)?;
+            let program = read(alloc, plan.linked, input)?;
             report_text(alloc, &program, &plan)
         }
         Command::Object(plan) => {
-            let program = read(alloc, input)?;
+            let program = read(alloc, plan.linked, input)?;
             object_file(alloc, &program, &plan)
         }
         Command::Run(plan) => {
-            let program = read(alloc, input)?;
+            let program = read(alloc, plan.plan.linked, input)?;
             run_text(alloc, &program, plan)
         }
-        Command::Strip => {
-            let program = read(alloc, input)?;
+        Command::Strip(linked) => {
+            let program = read(alloc, linked, input)?;
             Ok(strip_text(alloc, program.functions.as_slice())?)
         }
         Command::Gen(asked) => Ok(print_generated(alloc, asked.number, asked.blocks)?),
@@ -263,13 +273,13 @@ fn answered<S: Source>(alloc: Global, command: Command, input: &mut S) -> Result
     }
 }
 
-/// The program in an input, which is read to its end.
-fn read<S: Source>(alloc: Global, input: &mut S) -> Result<Program, Fault>
-    ensures ok { IfOk result (HasReadProgram (change S.left S.faults input.old input.new)) }
-    ensures err { IfErr result (HasReadNone (change S.left S.faults input.old input.new)) }
+/// The program in an input, which is read to its end; `linked` is whether the linked language is read.
+fn read<S: Source>(alloc: Global, linked: bool, input: &mut S) -> Result<Program, Fault>
+    ensures ok { IfOk result (HasReadProgram linked (change S.left S.faults input.old input.new)) }
+    ensures err { IfErr result (HasReadNone linked (change S.left S.faults input.old input.new)) }
     ensures counts { S.faults input.old ≤ S.faults input.new }
 {
-    match read_input(alloc, input, LIMIT) {
+    match read_input(alloc, linked, input, LIMIT) {
         Ok(program) => some_function(program),
         Err(InputError::Refused(refusal)) => Err(Fault::Refused(refusal)),
         Err(InputError::Failed) => Err(Fault::Read),

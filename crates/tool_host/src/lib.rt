@@ -8,6 +8,7 @@ use cli::fault::Fault;
 use std::io::Write;
 use std::process::ExitCode;
 use std::{env, io};
+pub use tool_driver::driver as driver;
 use tool_driver::driver::mirdwarf;
 use tool_driver::telling::tell;
 

@@ -5,8 +5,8 @@ use Rattle.selftest_count.specs.Text.{MAX_STEPS, IsSelfTest}
 use Rattle.mir_func.specs.Resolve.{resolve}
 use Rattle.read_program.specs.declared.closing.Parsed.{Parsed}
 use Rattle.read_program.specs.declared.program.Program.{Program}
-use Rattle.compile_function.specs.declared.compiled_function.CompiledFunction.{CompiledFunction}
-use Rattle.compile_program.specs.declared.compile.Compilation.{Compilation}
+use Rattle.run_command.specs.Program.{CompiledFunction}
+use Rattle.run_command.specs.Runs.{Compilation}
 use Rattle.dwarf_unit.specs.Variables.{variables_of_function}
 
 -- the first function of a program, and what is made of it

@@ -1,17 +1,24 @@
 -- The lines of a run as the code appends them.
 use Rattle.std.specs.Prelude.{◌≡◌, ℕ, suc, ◌<◌, List, [], ◌++◌, codes, Option, Some, None}
+use Rattle.rv64_instr.specs.declared.decoded.Way.{Way}
+use Rattle.rv64_instr.specs.declared.decoded.Way.TheVariants.{Back, Tail, Never}
 use Rattle.rv64_instr.specs.declared.start.CallEvent.{CallEvent}
+use Rattle.rv64_instr.specs.declared.start.CallTarget.{CallTarget}
+use Rattle.rv64_instr.specs.Row.{Callee, Way as LeavingWay}
 use Rattle.sem_mir.specs.State.{Reply}
+use Rattle.sem_machine.specs.Image.{Image}
 use Rattle.sem_machine.specs.Machine.{Machine}
+use Rattle.sem_machine.specs.MachineStep.{machine_step}
 use Rattle.emit_code.specs.declared.code.EncodedInstruction.{EncodedInstruction}
 use Rattle.emit_code.specs.Laid.{LaidCode}
 use Rattle.sim_machine.specs.declared.ending.Stepped.{Stepped}
 use Rattle.sim_machine.specs.declared.ending.Stepped.TheVariants.{Went, Stopped}
 use Rattle.sim_machine.specs.declared.ending.Stop.{Stop}
 use Rattle.sim_machine.specs.declared.hart.Hart.{Hart}
+use Rattle.sim_machine.specs.Departures.{way_target}
 use Rattle.sim_machine.specs.Kept.{StandsFor}
-use Rattle.sim_machine.specs.Running.{StepsOn, CallsOn, StaysIf}
-use Rattle.sim_machine.specs.Shown.{entry_at}
+use Rattle.sim_machine.specs.Running.{StepsOn, CallsOn, StaysIf, StopsSo}
+use Rattle.sim_machine.specs.Shown.{ShowsCode, entry_at}
 use Rattle.sim_trace.specs.declared.variable.Variable.{Variable}
 use Rattle.sim_trace.specs.Lines.{step_line, stop_line}
 
@@ -39,13 +46,20 @@ pub data Printed (gives : CallEvent → Reply → Type 0) (c : LaidCode) (variab
   goes_on : {n : ℕ} {h now : Hart} {text more : List ℕ} → Printed gives c variables from n h text →
       IsPrintedStep gives c variables n Went h now text more → Printed gives c variables from (suc n) now more
 
--- the line of a stop is appended
-abbrev pub IsStopAdded : Stop → Hart → (text more : List ℕ) → Type 0
-IsStopAdded stop h text more = (s : Machine) → StandsFor h s → more ≡ text ++ stop_line stop s
+-- The line of a stop is appended, on each image of the code.
+abbrev pub IsStopAdded : LaidCode → Stop → Hart → (text more : List ℕ) → Type 0
+IsStopAdded c stop h text more = (image : Image) (s : Machine) → ShowsCode c image → StandsFor h s → StopsSo stop image s →
+    more ≡ text ++ stop_line (machine_step image s) s
+
+-- this is what control leaves for on a way, if it leaves for a callee
+abbrev pub IsFor : Machine → Option CallTarget → Way → LeavingWay Callee → Type 0
+IsFor s target Back w = Unit {0}
+IsFor s target (Tail callee) w = target ≡ way_target s w
+IsFor s target (Never callee) w = target ≡ way_target s w
 
 -- a run of at most `limit` steps, with all its lines
 pub data IsRunPrinted (gives : CallEvent → Reply → Type 0) (c : LaidCode) (variables : List Variable) (limit : ℕ) (from : Hart) (text : List ℕ) : Type 0 where
   made_steps : {h : Hart} {lines : List ℕ} → Printed gives c variables from limit h lines → text ≡ lines ++ codes "stop steps\n" →
       IsRunPrinted gives c variables limit from text
   stopped : {n : ℕ} {h now : Hart} {lines more : List ℕ} (stop : Stop) → n < limit → Printed gives c variables from n h lines →
-      IsPrintedStep gives c variables n (Stopped stop) h now lines more → IsStopAdded stop now more text → IsRunPrinted gives c variables limit from text
+      IsPrintedStep gives c variables n (Stopped stop) h now lines more → IsStopAdded c stop now more text → IsRunPrinted gives c variables limit from text

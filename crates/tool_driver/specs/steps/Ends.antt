@@ -1,7 +1,7 @@
 -- The faults of the parts of a run, as its code meets them: want of memory is one of each part that allocates.
-use Rattle.std.specs.Prelude.{ℕ, List}
+use Rattle.std.specs.Prelude.{ℕ, Bool, List}
 use Rattle.read_program.specs.declared.program.Program.{Program}
-use Rattle.compile_program.specs.Program.{HaveRegisters, HasVirtualRegister, HasLargeFrame, HasLargeSection}
+use Rattle.run_command.specs.Program.{HaveRegisters, HasVirtualRegister, HasLargeFrame, HasLargeSection}
 use Rattle.cli.specs.Command.{IsCommand}
 use Rattle.cli.specs.declared.command.Command.{Command}
 use Rattle.cli.specs.declared.command.PassPipeline.{PassPipeline}
@@ -16,40 +16,40 @@ use Rattle.tool_driver.specs.Stream.{Change, MetFault}
 -- ---- reading
 
 -- the faults for which no program with a function is read
-abbrev pub RefusesText : (text : List ℕ) → Fault → Type 0
-RefusesText text (Refused r) = IsRefusedAt text r
-RefusesText text Memory = Unit {0}
-RefusesText text NoFunction = HasNoFunction text
-RefusesText text UnknownFunction = ⊥
-RefusesText text NoRegister = ⊥
-RefusesText text FrameTooLarge = ⊥
-RefusesText text SymbolName = ⊥
-RefusesText text SectionTooLarge = ⊥
-RefusesText text Usage = ⊥
-RefusesText text Read = ⊥
-RefusesText text TooLong = ⊥
-RefusesText text Write = ⊥
+abbrev pub RefusesText : (linked : Bool) → (text : List ℕ) → Fault → Type 0
+RefusesText linked text (Refused r) = IsRefusedAt linked text r
+RefusesText linked text Memory = Unit {0}
+RefusesText linked text NoFunction = HasNoFunction linked text
+RefusesText linked text UnknownFunction = ⊥
+RefusesText linked text NoRegister = ⊥
+RefusesText linked text FrameTooLarge = ⊥
+RefusesText linked text SymbolName = ⊥
+RefusesText linked text SectionTooLarge = ⊥
+RefusesText linked text Usage = ⊥
+RefusesText linked text Read = ⊥
+RefusesText linked text TooLong = ⊥
+RefusesText linked text Write = ⊥
 
 -- the input was read, but it is no program with a function, for this fault
-pub record RefusesInput (input : Change) (fault : Fault) : Type 0 where
+pub record RefusesInput (linked : Bool) (input : Change) (fault : Fault) : Type 0 where
   pub text : List ℕ
   pub read : HasRead input text
-  pub refused : RefusesText text fault
+  pub refused : RefusesText linked text fault
 
 -- the faults for which no program is read from an input
-abbrev pub HasReadNone : (input : Change) → Fault → Type 0
-HasReadNone input Read = MetFault input
-HasReadNone input Memory = Unit {0}
-HasReadNone input TooLong = IsTooLong input
-HasReadNone input (Refused r) = RefusesInput input (Refused r)
-HasReadNone input NoFunction = RefusesInput input NoFunction
-HasReadNone input UnknownFunction = ⊥
-HasReadNone input NoRegister = ⊥
-HasReadNone input FrameTooLarge = ⊥
-HasReadNone input SymbolName = ⊥
-HasReadNone input SectionTooLarge = ⊥
-HasReadNone input Usage = ⊥
-HasReadNone input Write = ⊥
+abbrev pub HasReadNone : (linked : Bool) → (input : Change) → Fault → Type 0
+HasReadNone linked input Read = MetFault input
+HasReadNone linked input Memory = Unit {0}
+HasReadNone linked input TooLong = IsTooLong input
+HasReadNone linked input (Refused r) = RefusesInput linked input (Refused r)
+HasReadNone linked input NoFunction = RefusesInput linked input NoFunction
+HasReadNone linked input UnknownFunction = ⊥
+HasReadNone linked input NoRegister = ⊥
+HasReadNone linked input FrameTooLarge = ⊥
+HasReadNone linked input SymbolName = ⊥
+HasReadNone linked input SectionTooLarge = ⊥
+HasReadNone linked input Usage = ⊥
+HasReadNone linked input Write = ⊥
 
 -- ---- compiling
 

@@ -1,7 +1,7 @@
-use Rattle.std.proofs.Common.{◌∷◌, sym, ◌∙◌, map}
+use Rattle.std.proofs.Common.{◌∷◌, refl, sym, ◌∙◌, map}
 use Rattle.std.specs.Prelude.{string_bytes}
-use Rattle.cli.specs.declared.command.Command.TheVariants.{Compile, Listing, Report, Object, Run, SelfTest}
-use Rattle.cli.proofs.CommandWords.{the_command, no_compile, no_listing, no_report, no_object, no_run, no_test, no_some}
+use Rattle.cli.specs.declared.command.Command.TheVariants.{Compile, Listing, Report, Object, Run, Strip, SelfTest}
+use Rattle.cli.proofs.CommandWords.{the_command, no_compile, no_listing, no_report, no_object, no_run, no_test, no_strip, no_some}
 use Rattle.cli.proofs.command.named.Goals as goal
 
 pub returns-in-Some : goal.returns-in-Some
@@ -74,4 +74,16 @@ returns-in-None-6 c = λ command. (
   λ e. absurd (no_some command e),
   λ h. absurd (no_test c.args.name.now (map string_bytes c.args.words.now) (c.is_same-6.ensures.0 c.if-is_same-6.true)
       (λ t given. no_some t (sym c.in-None-6.is ∙ (c.in_ok-test.ensures t).1 given)) command h),
+)
+
+pub returns-in-Some-strip_asked : goal.returns-in-Some-strip_asked
+returns-in-Some-strip_asked c =
+    the_command (c.args.name.now ∷ map string_bytes c.args.words.now) (Strip c.in-Some-strip_asked.linked)
+    (c.is_same-7.ensures.0 c.if-is_same-7.true, (c.in-Some-strip_asked.ensures c.in-Some-strip_asked.linked).0 refl)
+
+pub returns-in-None-strip_asked : goal.returns-in-None-strip_asked
+returns-in-None-strip_asked c = λ command. (
+  λ e. absurd (no_some command e),
+  λ h. absurd (no_strip c.args.name.now (map string_bytes c.args.words.now) (c.is_same-7.ensures.0 c.if-is_same-7.true)
+      (λ l given. no_some l ((c.in-None-strip_asked.ensures l).1 given)) command h),
 )

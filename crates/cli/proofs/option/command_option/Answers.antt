@@ -1,5 +1,5 @@
 use Rattle.std.specs.Prelude.{codes}
-use Rattle.cli.specs.declared.option.CommandOption.TheVariants.{Reserve, Arguments, Answers, Frame, Inline}
+use Rattle.cli.specs.declared.option.CommandOption.TheVariants.{Reserve, Arguments, Answers, Frame, Inline, Linked, Symbols}
 use Rattle.cli.proofs.OptionWords.{the_option, no_option, numbers_word, word_numbers}
 use Rattle.cli.proofs.option.command_option.Goals as goal
 
@@ -8,6 +8,9 @@ returns-then-is_same c = the_option c.args.word.now Frame (c.is_same.ensures.0 c
 
 pub returns-then-is_same-2 : goal.returns-then-is_same-2
 returns-then-is_same-2 c = the_option c.args.word.now Inline (c.is_same-2.ensures.0 c.if-is_same-2.true, tt)
+
+pub returns-then-is_same-3 : goal.returns-then-is_same-3
+returns-then-is_same-3 c = the_option c.args.word.now Linked (c.is_same-3.ensures.0 c.if-is_same-3.true, tt)
 
 pub returns-in-Some-2 : goal.returns-in-Some-2
 returns-in-Some-2 c =
@@ -23,11 +26,16 @@ returns-in-Some-4 c =
     the_option c.args.word.now (Answers c.in-Some-4.values)
     (numbers_word 64 (codes "--answers=") c.args.word.now c.in-Some-4.values ((c.in_ok-values-2.ensures c.in-Some-4.values).0 c.in-Some-4.is))
 
+pub returns-in-Some-5 : goal.returns-in-Some-5
+returns-in-Some-5 c = the_option c.args.word.now (Symbols c.in-Some-5.pairs) ((c.in_ok-pairs.ensures c.in-Some-5.pairs).0 c.in-Some-5.is)
+
 pub returns : goal.returns
 returns c =
     let word = c.args.word.now in
     no_option word (λ e. (let same = c.is_same.ensures.1 e in absurd cc)) (λ e. (let same = c.is_same-2.ensures.1 e in absurd cc))
+    (λ e. (let same = c.is_same-3.ensures.1 e in absurd cc))
     (λ l h. c.in_default.not-Some l ((c.passes.ensures l).1 h))
     (λ r h. c.in_default-2.not-Some r ((c.in_ok-registers.ensures r).1 h))
     (λ a h. c.in_default-3.not-Some a ((c.in_ok-values.ensures a).1 (word_numbers 8 (codes "--args=") word a h.0 h.1)))
     (λ a h. c.in_default-4.not-Some a ((c.in_ok-values-2.ensures a).1 (word_numbers 64 (codes "--answers=") word a h.0 h.1)))
+    (λ p h. c.in_default-5.not-Some p ((c.in_ok-pairs.ensures p).1 h))

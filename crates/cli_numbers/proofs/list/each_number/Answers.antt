@@ -38,7 +38,7 @@ returns-in-None c = λ values. (
       let long = same_length decimal c.args.pieces.now values h.0.each in
       let n = get_or values i 0 in
       let small = All-get_or (λ m. m < 2 ^ 64) values i 0 (omega (arith, below, long)) h.0.small in
-      let spelled = piece_at decimal c.args.pieces.now values i (record { ref_ptr = (0, 0); now = [] }) h.0.each below in
+      let spelled = piece_at decimal c.args.pieces.now values i (record { ref_ptr = (0, 0); now = [] }) 0 h.0.each below in
       absurd (no_number n (sym c.in-None.is ∙ (c.number.ensures n).1 (spelled, omega (arith, small))))),
 )
 

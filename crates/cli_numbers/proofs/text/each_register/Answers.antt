@@ -46,7 +46,7 @@ returns-in-None c = λ registers. (
       let same = one_list register_name (Contains RESERVABLE) names (take i registers) c.loop-word.registers
       (All-take (Contains RESERVABLE) i registers h.reservable) c.loop-word.invariant.reservable front in
       absurd (no_register r (sym c.in-None.is ∙ (c.another.ensures r).1 (record {
-        named = piece_at register_name c.args.words.now registers i (record { ref_ptr = (0, 0); now = [] }) h.each below;
+        named = piece_at register_name c.args.words.now registers i (record { ref_ptr = (0, 0); now = [] }) 0 h.each below;
         reservable = All-get_or (Contains RESERVABLE) registers i 0 inside h.reservable;
         other = not_before registers c.as_slice.result.now i (same ∙ sym c.as_slice.ensures) inside h.once;
       })))),

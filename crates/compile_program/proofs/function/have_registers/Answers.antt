@@ -3,11 +3,11 @@ use Rattle.std.proofs.Common.{◌≡◌, ◌∙◌, ap, sym, subst}
 use Rattle.std.proofs.lemmas.Result.{err_from_is_err_and}
 use Rattle.std.proofs.lemmas.List.{take_all}
 use Rattle.std.proofs.lemmas.List.Elements.{All-more, All-same}
-use Rattle.compile_passes.specs.declared.error.PassesError.{PassesError}
 use Rattle.compile_function.specs.declared.error.CompileError.TheVariants.{NoRegister}
+use Rattle.compile_function.specs.Fault.{PassesError}
+use Rattle.compile_function.proofs.Refused.{register_error}
 use Rattle.compile_program.specs.Program.{GetsRegisters}
 use Rattle.compile_program.proofs.Passed.{one_virtual}
-use Rattle.compile_program.proofs.Refused.{register_error}
 use Rattle.compile_program.proofs.function.have_registers.Goals as goal
 
 pub loop-source-preserved : goal.loop-source-preserved

@@ -1,12 +1,12 @@
 use Rattle.std.specs.Prelude.{Err}
 use Rattle.std.proofs.Common.{◌≡◌, ◌∙◌, ap, refl, sym}
 use Rattle.std.proofs.lemmas.Result.{err_from_is_err_and}
-use Rattle.compile_passes.specs.declared.error.PassesError.{PassesError}
 use Rattle.compile_function.specs.declared.error.CompileError.{CompileError}
 use Rattle.compile_function.specs.declared.error.CompileError.TheVariants.{NoRegister, FrameTooLarge}
+use Rattle.compile_function.specs.Fault.{PassesError}
 use Rattle.compile_function.specs.Passed.{passed_of}
+use Rattle.compile_function.proofs.Refused.{register_error}
 use Rattle.compile_program.proofs.Passed.{made_too_large}
-use Rattle.compile_program.proofs.Refused.{register_error}
 use Rattle.compile_program.proofs.function.push_source.Goals as goal
 
 pub push_function-requires-clause-sound : goal.push_function-requires-clause-sound

@@ -6,7 +6,7 @@ use Rattle.mir_func.specs.Sound.{AllItems}
 use Rattle.emit_code.specs.Rule.{Layout, entries_at, sites_from}
 use Rattle.listing_meaning.specs.Listing.{prologue_listed, body_listed}
 use Rattle.listing_function.specs.steps.Entries.{IsSource, IsPlaced}
-use Rattle.listing_function.proofs.Steps.{first_and_rest}
+use Rattle.mir_printer.proofs.ListedLemmas.{first_and_rest}
 use Rattle.listing_function.proofs.listing.code_lines.Goals as goal
 
 pub returns-in-len1-up : goal.returns-in-len1-up

@@ -1,9 +1,7 @@
 use Rattle.std.specs.Prelude.{Err}
 use Rattle.std.proofs.Common.{◌≡◌, ◌∙◌, ap, sym}
 use Rattle.std.proofs.lemmas.Result.{err_from_is_err_and}
-use Rattle.compile_function.specs.declared.error.CompileError.{CompileError}
-use Rattle.compile_function.specs.declared.error.CompileError.TheVariants.{NoRegister, FrameTooLarge, SectionTooLarge}
-use Rattle.compile_program.specs.Program.{steps_of}
+use Rattle.run_command.specs.Program.{CompileError, NoRegister, FrameTooLarge, SectionTooLarge, steps_of}
 use Rattle.selftest_command.proofs.Joined.{texts_of, virtual_of, frame_of, section_of}
 use Rattle.selftest_command.proofs.text.self_test.Goals as goal
 

@@ -1,4 +1,4 @@
-use Rattle.std.proofs.Common.{List, Option, Some, None, IfSome, IfNone, refl, sym, subst}
+use Rattle.std.proofs.Common.{List, Option, Some, None, IfSome, IfNone, refl, sym, ◌∙◌, subst}
 use Rattle.std.proofs.lemmas.Result.{IfOk-weaker}
 use Rattle.dwarf_loclists.specs.declared.range.Range.{Range}
 use Rattle.emit_code.specs.Laid.{LaidCode}
@@ -32,7 +32,7 @@ returns-clause-counts c =
     (λ n counts image m s shows begins begins_source. subst (λ (ls : List (List Range)). From ls n) c.as_slice.ensures counts image m s
     (subst (λ (k : LaidCode). ShowsCode k image) (sym c.in_ok-machine.ensures.code) shows)
     (both_start c.start_with-start.result c.start_with-start.ensures.regs c.start_with-start.ensures.memory
-    c.start_with-start.ensures.symbols c.args.source.now src code c.args.lists.now
+    (c.start_with-start.ensures.symbols ∙ c.new.ensures) c.args.source.now src code c.args.lists.now
     c.args.parts.now no_counts there.hart c.in_ok-state.state refl c.in_ok-machine.ensures.stands c.in_ok-state.ensures.stands image m s begins
     begins_source)) o h)
     c.count_steps.ensures.counts
@@ -49,7 +49,7 @@ returns-clause-apart c =
     subst (λ (k : LaidCode). GoesApart src image k c.args.lists.now c.args.parts.now c.args.limit m s) c.in_ok-machine.ensures.code
     (subst From c.as_slice.ensures apart image m s (subst (λ (k : LaidCode). ShowsCode k image) (sym c.in_ok-machine.ensures.code) shows)
     (both_start c.start_with-start.result c.start_with-start.ensures.regs c.start_with-start.ensures.memory
-    c.start_with-start.ensures.symbols c.args.source.now src code c.args.lists.now
+    (c.start_with-start.ensures.symbols ∙ c.new.ensures) c.args.source.now src code c.args.lists.now
     c.args.parts.now no_counts there.hart c.in_ok-state.state refl c.in_ok-machine.ensures.stands c.in_ok-state.ensures.stands image m s begins
     begins_source))) o h)
     c.count_steps.ensures.apart

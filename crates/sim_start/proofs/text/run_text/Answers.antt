@@ -10,5 +10,5 @@ if_ok (Err e) P Q f h = tt
 pub returns : goal.returns
 returns c =
     if_ok c.print_run.result _ _
-    (λ text h. asked c.args.code.now c.args.arguments.now c.args.values c.start_with-start.result c.args.variables.now c.args.limit text (omega arith)
-    c.start_with-start.ensures.regs c.start_with-start.ensures.memory c.start_with-start.ensures.symbols h) c.print_run.ensures
+    (λ text h. asked c.args.code.now c.args.symbols c.args.arguments.now c.args.values c.start_with-start.result c.args.variables.now c.args.limit text
+    (omega arith) c.start_with-start.ensures.regs c.start_with-start.ensures.memory c.start_with-start.ensures.symbols h) c.print_run.ensures

@@ -1,7 +1,6 @@
 use Rattle.std.proofs.Common.{◌≡◌, ℕ, suc, ◌+◌, ◌<◌, List, refl, sym, ◌∙◌, subst, arith}
 use Rattle.emit_code.specs.Laid.{LaidCode}
 use Rattle.sim_machine.specs.declared.ending.Stepped.{Stepped}
-use Rattle.sim_machine.specs.declared.hart.Hart.{Hart}
 use Rattle.sim_trace.specs.steps.Printed.{IsPrintedStep, Printed, IsStopAdded, IsRunPrinted, begins, goes_on, made_steps, stopped}
 use Rattle.sim_trace.proofs.Lifting.{on_ok}
 use Rattle.sim_trace.proofs.run.print_steps.Goals as goal
@@ -45,11 +44,12 @@ returns-in-Stopped g c =
     let step = subst (λ (r : Stepped). IsPrintedStep (gives c.args.machine.now.answers) c.args.machine.now.code c.args.variables.now c.loop-n.n r m.hart
     now.hart c.loop-n.text c.print_step.new.text) c.in-Stopped.is made in
     let below : c.loop-n.n < c.args.limit = c.loop-n-test.true in
-    on_ok c.push_stop.result (IsStopAdded c.in-Stopped.stop c.hart.result.now c.print_step.new.text c.push_stop.new.text)
+    on_ok c.push_stop.result (IsStopAdded now.code c.in-Stopped.stop now.hart c.print_step.new.text c.push_stop.new.text)
     (IsRunPrinted (gives c.args.machine.now.answers) c.args.machine.now.code c.args.variables.now c.args.limit c.args.machine.now.hart c.push_stop.new.text)
     c.push_stop.ensures
     (λ added. stopped c.in-Stopped.stop below c.loop-n.invariant.printed step
-    (subst (λ (h : Hart). IsStopAdded c.in-Stopped.stop h c.print_step.new.text c.push_stop.new.text) c.hart.ensures added))
+    (subst (λ (k : LaidCode). IsStopAdded k c.in-Stopped.stop now.hart c.print_step.new.text c.push_stop.new.text)
+    (c.print_step.ensures.code ∙ c.loop-n.invariant.code) added))
 
 pub returns : goal.returns
 returns g c =

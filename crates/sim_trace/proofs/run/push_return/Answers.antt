@@ -1,15 +1,10 @@
-use Rattle.std.proofs.Common.{◌≡◌, ℕ, ◌++◌, List, [], ◌∷◌, ap, ◌∙◌, append_assoc}
+use Rattle.std.proofs.Common.{◌≡◌, ◌++◌, [], ◌∷◌}
 use Rattle.std.specs.Prelude.{codes}
 use Rattle.std.specs.Fmt.{decimal}
 use Rattle.sim_trace.specs.Lines.{return_line}
 use Rattle.sim_trace.proofs.Lifting.{on_ok}
+use Rattle.sim_trace.proofs.Stops.{line_of}
 use Rattle.sim_trace.proofs.run.push_return.Goals as goal
-
-line_of : (text label digits made with more : List ℕ) → made ≡ text ++ label → with ≡ made ++ digits → more ≡ with ++ 10 ∷ [] →
-    more ≡ text ++ (label ++ digits ++ 10 ∷ [])
-line_of text label digits made with more p q r =
-    r ∙ ap (λ (xs : List ℕ). xs ++ 10 ∷ []) (q ∙ (ap (λ (xs : List ℕ). xs ++ digits) p ∙ append_assoc text label digits))
-    ∙ append_assoc text (label ++ digits) (10 ∷ [])
 
 pub returns : goal.returns
 returns c =

@@ -4,11 +4,10 @@ use Rattle.std.specs.Prelude.{MatchOption}
 use Rattle.cli.specs.declared.command.RunPlan.{RunPlan}
 use Rattle.run_command.proofs.Runs.{compilation_can_run}
 use Rattle.run_command.proofs.Source.{run_of_program, names_are_read}
-use Rattle.run_command.specs.Runs.{HasNone, IsRunOf}
+use Rattle.run_command.specs.Runs.{Compilation, HasNone, IsRunOf}
 use Rattle.run_command.specs.Source.{IsUnknown, IsRunOfProgram}
 use Rattle.read_program.specs.declared.program.Program.{Program}
-use Rattle.compile_program.specs.declared.compile.Compilation.{Compilation}
-use Rattle.compile_program.specs.Program.{IsCompilationOf, IsOutputOf}
+use Rattle.run_command.specs.Program.{IsCompilationOf, IsOutputOf}
 use Rattle.tool_driver.specs.Refusals.{unknown_function}
 use Rattle.tool_driver.specs.Compiled.{plan_steps}
 use Rattle.tool_driver.proofs.compiled.run_of.Goals as goal
@@ -16,12 +15,13 @@ use Rattle.tool_driver.proofs.compiled.run_of.Goals as goal
 module _ (asked : RunPlan) (p : Program) (c : Compilation) (output : IsOutputOf (plan_steps asked.plan) p c.output) (name : List ℕ)
     (named : name ≡ asked.name) where
   ran : (is : IsCompilationOf asked.plan.reserve asked.plan.passes p c) (arguments : List ℕ) (given : arguments ≡ asked.arguments) (text : List ℕ) →
-      IsRunOf c name asked.steps arguments asked.answers text →
-      IsRunOfProgram (plan_steps asked.plan) p asked.name asked.steps asked.arguments asked.answers text
+      IsRunOf c name asked.steps asked.symbols arguments asked.answers text →
+      IsRunOfProgram (plan_steps asked.plan) p asked.name asked.steps asked.symbols asked.arguments asked.answers text
   ran is arguments given text run =
-      run_of_program asked.plan.reserve asked.plan.passes p c output is asked.name asked.steps asked.arguments asked.answers text
-      (subst (λ (n : List ℕ). IsRunOf c n asked.steps asked.arguments asked.answers text) named
-      (subst (λ (xs : List ℕ). IsRunOf c name asked.steps xs asked.answers text) given run))
+      run_of_program asked.plan.reserve asked.plan.passes p c output is asked.name asked.steps asked.symbols asked.arguments asked.answers
+      text
+      (subst (λ (n : List ℕ). IsRunOf c n asked.steps asked.symbols asked.arguments asked.answers text) named
+      (subst (λ (xs : List ℕ). IsRunOf c name asked.steps asked.symbols xs asked.answers text) given run))
 
   unknown : HasNone name c.output.functions → IsUnknown asked.name p.functions
   unknown none =
@@ -44,7 +44,7 @@ returns-in-Ok-Some-clause-ok c =
     ran c.args.asked c.args._program.now c.args.compilation.now c.requires.output c.as_slice.result.now c.as_slice.ensures c.requires.compilation
     c.as_slice-2.result.now c.as_slice-2.ensures c.in-Ok-Some.text
     (some_given c.in-Ok-Some.field-0 c.in-Ok-Some.text (HasNone c.as_slice.result.now c.args.compilation.now.output.functions)
-    (IsRunOf c.args.compilation.now c.as_slice.result.now c.args.asked.steps c.as_slice-2.result.now c.args.asked.answers) same
+    (IsRunOf c.args.compilation.now c.as_slice.result.now c.args.asked.steps c.args.asked.symbols c.as_slice-2.result.now c.args.asked.answers) same
     c.in-Ok-Some.ensures)
 
 pub returns-in-Ok-None-clause-err : goal.returns-in-Ok-None-clause-err
@@ -53,5 +53,5 @@ returns-in-Ok-None-clause-err c =
     unknown_function c.args.asked refl
     (unknown c.args.asked c.args._program.now c.args.compilation.now c.requires.output c.as_slice.result.now c.as_slice.ensures
     (none_given c.in-Ok-None.field-0 (HasNone c.as_slice.result.now c.args.compilation.now.output.functions)
-    (IsRunOf c.args.compilation.now c.as_slice.result.now c.args.asked.steps c.as_slice-2.result.now c.args.asked.answers) same
+    (IsRunOf c.args.compilation.now c.as_slice.result.now c.args.asked.steps c.args.asked.symbols c.as_slice-2.result.now c.args.asked.answers) same
     c.in-Ok-None.ensures))

@@ -16,27 +16,27 @@ use Rattle.tool_driver.proofs.driver.answered.Goals as goal
 pub compiled_text-requires : goal.compiled_text-requires
 compiled_text-requires g c =
     let read = c.in_ok-program-in-Compile.ensures.ok in
-    programs_are_as_read read.text c.in_ok-program-in-Compile.program read.has.reads
+    programs_are_as_read c.in-Compile.plan.plan.linked read.text c.in_ok-program-in-Compile.program read.has.reads
 
 pub listing_text-requires : goal.listing_text-requires
 listing_text-requires g c =
     let read = c.in_ok-program-in-Listing.ensures.ok in
-    programs_are_as_read read.text c.in_ok-program-in-Listing.program read.has.reads
+    programs_are_as_read c.in-Listing.plan.linked read.text c.in_ok-program-in-Listing.program read.has.reads
 
 pub report_text-requires : goal.report_text-requires
 report_text-requires g c =
     let read = c.in_ok-program-in-Report.ensures.ok in
-    programs_are_as_read read.text c.in_ok-program-in-Report.program read.has.reads
+    programs_are_as_read c.in-Report.plan.linked read.text c.in_ok-program-in-Report.program read.has.reads
 
 pub object_file-requires : goal.object_file-requires
 object_file-requires g c =
     let read = c.in_ok-program-in-Object.ensures.ok in
-    programs_are_as_read read.text c.in_ok-program-in-Object.program read.has.reads
+    programs_are_as_read c.in-Object.plan.linked read.text c.in_ok-program-in-Object.program read.has.reads
 
 pub run_text-requires : goal.run_text-requires
 run_text-requires g c =
     let read = c.in_ok-program-in-Run.ensures.ok in
-    programs_are_as_read read.text c.in_ok-program-in-Run.program read.has.reads
+    programs_are_as_read c.in-Run.plan.plan.linked read.text c.in_ok-program-in-Run.program read.has.reads
 
 pub returns-in_ok-program-in-Compile-clause-ok : goal.returns-in_ok-program-in-Compile-clause-ok
 returns-in_ok-program-in-Compile-clause-ok g c =
@@ -112,7 +112,7 @@ pub returns-in_ok-strip_text-in-Strip-clause-ok : goal.returns-in_ok-strip_text-
 returns-in_ok-strip_text-in-Strip-clause-ok g c =
     let input = change g.S.Source.left g.S.Source.faults c.args.input.now c.read-in-Strip.new.input in
     subst (λ (k : Command). AnswersInput k input c.in_ok-strip_text-in-Strip.field-0) (sym c.in-Strip.is)
-    (strip_ok input c.in_ok-program-in-Strip.program c.in_ok-strip_text-in-Strip.field-0 c.in_ok-program-in-Strip.ensures.ok
+    (strip_ok c.in-Strip.linked input c.in_ok-program-in-Strip.program c.in_ok-strip_text-in-Strip.field-0 c.in_ok-program-in-Strip.ensures.ok
     (c.in_ok-strip_text-in-Strip.ensures ∙ ap stripped_text c.as_slice.ensures))
 
 pub test_text-requires : goal.test_text-requires
@@ -171,5 +171,5 @@ pub returns-in_err-program-in-Strip-clause-err : goal.returns-in_err-program-in-
 returns-in_err-program-in-Strip-clause-err g c =
     let p = err_from_is_err_and c.from_residual-in_err-program-in-Strip.result c.from_residual-in_err-program-in-Strip.ensures.1 in
     rw (p.1, p.2, c.in-Strip.is)
-    (read_none Strip tt (change g.S.Source.left g.S.Source.faults c.args.input.now c.read-in-Strip.new.input)
+    (read_none (Strip c.in-Strip.linked) tt (change g.S.Source.left g.S.Source.faults c.args.input.now c.read-in-Strip.new.input)
     c.in_err-program-in-Strip.field-0.0 c.in_err-program-in-Strip.ensures.err)

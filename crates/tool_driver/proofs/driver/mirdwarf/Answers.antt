@@ -92,8 +92,8 @@ returns-in-Ok-clause-tested g c test done =
     (change g.K.Sink.written g.K.Sink.faults c.args.output.now c.run.new.output) c.in-Ok.ensures.done test
 
 pub returns-in-Ok-clause-stripped : goal.returns-in-Ok-clause-stripped
-returns-in-Ok-clause-stripped g c done =
-    wrote_stripped (map string_bytes c.args.words.now) (change g.S.Source.left g.S.Source.faults c.args.input.now c.run.new.input)
+returns-in-Ok-clause-stripped g c linked done =
+    wrote_stripped linked (map string_bytes c.args.words.now) (change g.S.Source.left g.S.Source.faults c.args.input.now c.run.new.input)
     (change g.K.Sink.written g.K.Sink.faults c.args.output.now c.run.new.output) c.in-Ok.ensures.done
 
 pub returns-in-Ok-clause-generated : goal.returns-in-Ok-clause-generated

@@ -10,27 +10,29 @@ pub returns-in-Ok-clause-ok : goal.returns-in-Ok-clause-ok
 returns-in-Ok-clause-ok g c =
     let input = change g.S.Source.left g.S.Source.faults c.args.input.now c.read_input.new.input in
     let said = c.in-Ok.ensures.answers in
-    IfOk-weaker c.some_function.result _ (HasReadProgram input) (λ program is. subst (HasReadProgram input) (sym is.0) (reads_program input said.1
+    IfOk-weaker c.some_function.result _ (HasReadProgram c.args.linked input)
+    (λ program is. subst (HasReadProgram c.args.linked input) (sym is.0) (reads_program c.args.linked input said.1
     c.in-Ok.program said.0 is.1)) c.some_function.ensures.ok
 
 pub returns-in-Ok-clause-err : goal.returns-in-Ok-clause-err
 returns-in-Ok-clause-err g c =
     let input = change g.S.Source.left g.S.Source.faults c.args.input.now c.read_input.new.input in
     let said = c.in-Ok.ensures.answers in
-    IfErr-weaker c.some_function.result _ (HasReadNone input) (λ fault is. subst (HasReadNone input) (sym is.0) (reads_none input said.1 c.in-Ok.program said.0
+    IfErr-weaker c.some_function.result _ (HasReadNone c.args.linked input)
+    (λ fault is. subst (HasReadNone c.args.linked input) (sym is.0) (reads_none c.args.linked input said.1 c.in-Ok.program said.0
     is.1)) c.some_function.ensures.err
 
 pub returns-in-Err-Refused-clause-err : goal.returns-in-Err-Refused-clause-err
 returns-in-Err-Refused-clause-err g c =
     let input = change g.S.Source.left g.S.Source.faults c.args.input.now c.read_input.new.input in
     let said = rw c.in-Err-Refused.field-0-is at c.in-Err-Refused.ensures.answers in
-    reads_refusal input said.1 c.in-Err-Refused.refusal said.0
+    reads_refusal c.args.linked input said.1 c.in-Err-Refused.refusal said.0
 
 pub returns-in-Err-TooLong-clause-err : goal.returns-in-Err-TooLong-clause-err
 returns-in-Err-TooLong-clause-err g c =
     let input = change g.S.Source.left g.S.Source.faults c.args.input.now c.read_input.new.input in
     let said = rw c.in-Err-TooLong.field-0-is at c.in-Err-TooLong.ensures.answers in
-    reads_too_long input said.1 said.0
+    reads_too_long c.args.linked input said.1 said.0
 
 pub returns-in-Err-Failed-clause-err : goal.returns-in-Err-Failed-clause-err
 returns-in-Err-Failed-clause-err g c =
