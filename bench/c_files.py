@@ -20,11 +20,11 @@ TAILS, TABLES, POOL = "-fno-optimize-sibling-calls", "-fno-jump-tables", "-riscv
 
 # Of each refused file: what it shows, its text, the flag that is left out, the refusal, the cause, and what helps.
 REFUSED = [
-    ("a tail call", "long g(long);\nlong f(long a) { return g(a + 1); }", TAILS, "UnknownOpcode", "A tail call isn't read", TAILS),
+    ("a tail call", "long g(long);\nlong f(long a) { return g(a + 1); }", TAILS, "UnknownOpcode", "A tail call is read with --linked alone", TAILS),
     ("a struct's copy", "struct s { long a[40]; };\nvoid f(struct s *to, struct s *from) { *to = *from; }", TAILS, "UnknownOpcode",
-     "A tail call isn't read", TAILS),
-    ("a call by a pointer", "long f(long (*g)(long), long a) { return g(a) + 1; }", None, "UnknownOpcode", "a pointer isn't read", "by its name"),
-    ("a string", "long g(const char *);\nlong f(void) { return g(\"text\") + 1; }", None, "UnknownOpcode", "a string or a function isn't read",
+     "A tail call is read with --linked alone", TAILS),
+    ("a call by a pointer", "long f(long (*g)(long), long a) { return g(a) + 1; }", None, "UnknownOpcode", "by a pointer is read with --linked alone", "by its name"),
+    ("a string", "long g(const char *);\nlong f(void) { return g(\"text\") + 1; }", None, "UnknownOpcode", "a string or a function is read with --linked",
      "as an argument"),
     ("a global variable", "long counter;\nlong f(void) { return ++counter; }", None, "BadOperands", "The address of a global variable", "as an argument"),
     ("a large constant", "long f(long a) { return a ^ 0x123456789abcdef1; }", POOL, "BadLine", "a constant pool isn't read", POOL),

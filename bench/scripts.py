@@ -35,6 +35,7 @@ WORDS = [
     ("compile --frame --frame", "--frame is given twice"),
     ("compile --fram", "no option `--fram`. Did you mean `--frame`?"),
     ("report --frame", "`report` takes no --frame; compile does"),
+    ("object --linked", "`object` takes no --linked; compile, listing, report, run, strip do"),
     ("compile nofile.mir", "there is no file `nofile.mir`"),
     ("compile examples", "`examples` is a folder"),
     ("compile /dev/null", "`/dev/null` is no plain file"),
@@ -46,6 +47,11 @@ WORDS = [
     ("run price 2000000", "STEPS is 2000000, and has to be from 0 to 1,000,000"),
     ("run price 5 --args=1,2,3,4,5,6,7,8,9", "--args has 9 numbers"),
     ("run price 5 --args=-1", "--args has `-1`"),
+    ("run price 5 --symbols=g=1", "--symbols is taken beside --linked alone"),
+    ("run price 5 --linked --symbols=g", "gives `g` the address ``"),
+    ("run price 5 --linked --symbols=g=1,g=2", "--symbols has `g` twice"),
+    ("run price 5 --linked --symbols", "wants its value behind `=`, in one word, as --symbols=g=4096"),
+    ("compile --symbols=g=1", "`compile` takes no --symbols; run does"),
     ("gen 0 0", "BLOCKS is 0, and has to be from 1 to 512"),
     ("gen 70000 1", "NUMBER is 70000, and has to be from 0 to 65,536"),
     ("gen 0 1 file", "`gen` reads nothing"),
@@ -55,10 +61,10 @@ WORDS = [
 
 # A line that a function of a text has in front of its return, and what is told of its refusal.
 REFUSED = [
-    ("PseudoTAIL target-flags(riscv-call) @g, implicit $x2, implicit $x10", "UnknownOpcode", "A tail call isn't read", "-fno-optimize-sibling-calls"),
+    ("PseudoTAIL target-flags(riscv-call) @g, implicit $x2, implicit $x10", "UnknownOpcode", "A tail call is read with --linked alone", "-fno-optimize-sibling-calls"),
     ("renamable $x12 = PseudoMovAddr target-flags(riscv-hi) @__const.f.w, target-flags(riscv-lo) @__const.f.w", "UnknownOpcode",
      "a local array or struct begins with", "one by one"),
-    ("PseudoCALLIndirect killed renamable $x12, csr_ilp32_lp64, implicit-def dead $x1", "UnknownOpcode", "by a pointer isn't read", "by its name"),
+    ("PseudoCALLIndirect killed renamable $x12, csr_ilp32_lp64, implicit-def dead $x1", "UnknownOpcode", "by a pointer is read with --linked alone", "by its name"),
     ("$x10 = PseudoMovAddr target-flags(riscv-hi) @.str, target-flags(riscv-lo) @.str", "UnknownOpcode", "The address of a global", "as an argument"),
     ("$x10 = PseudoMovAddr target-flags(riscv-hi) @switch.table.f, target-flags(riscv-lo) @switch.table.f", "UnknownOpcode", "a switch", "-fno-jump-tables"),
     ("$x11 = LUI target-flags(riscv-hi) @counter", "BadOperands", "The address of a global", "as an argument"),
@@ -69,6 +75,15 @@ REFUSED = [
     ("$x10 = ADDI $x10, 1, implicit %5", "VirtualRegister", "An implicit virtual register", "as llc writes it"),
     ("$x2 = ADDI $x2, -16", "StackPointerUse", "the stack pointer", "virtregrewriter"),
     ("ADJCALLSTACKDOWN 8, 0, implicit-def dead $x2, implicit $x2", "BadOperands", "arguments on the stack; a call has at most eight", "a struct"),
+]
+
+# Of the program that is read with --linked alone: each file, the line at which it is refused without, a run in it, and how that ends.
+LINKED = [
+    ("numbers", 269, "BlockEnd", "push 20 --args=7 --symbols=depth=65536,numbers=131072", "stop returned 7"),
+    ("numbers", 269, "BlockEnd", "fail 20 --args=7", "stop gone @abort"),
+    ("operations", 245, "UnknownOpcode", "divide 9 --args=7,2", "stop tailed @__divdi3"),
+    ("operations", 245, "UnknownOpcode", "operate 20 --args=43,7,2", "stop gone @fail"),
+    ("calculator", 493, "UnknownOpcode", "calculate 30 --args=4096 --answers=2,7,9", "stop tailed @push"),
 ]
 
 # Texts that are no file of llc's, and what is told of them.
@@ -240,6 +255,24 @@ def compiled(room, name, text, *options):
     return file
 
 
+def linked(room):
+    for name, line, cause, words, ending in LINKED:
+        file = f"examples/calculator/{name}.mir"
+        status, said, told = run("./mirdwarf", "compile", "--passes=none", file)
+        check(f"{name} without --linked", status == 1 and not said and told.startswith(f"mirdwarf: line {line}: {cause}\n"), told)
+        for command in ("compile", "listing", "report", "strip"):
+            status, said, told = run("./mirdwarf", command, "--linked", file)
+            check(f"{command} --linked of {name}", status == 0 and said and not told, told)
+        status, said, told = run("./mirdwarf", "run", *words.split(" "), "--linked", file)
+        check(f"{name}: run {words}", status == 0 and said.endswith(f"\n{ending}\n"), said + told)
+    with open(os.path.join(TOP, "examples", "calculator", "operations.mir"), encoding="utf-8") as it:
+        output = compiled(room, "operations.txt", it.read(), "--linked")
+    for name, status, wanted in (("add", 0, "result 8\n"), ("operate", 1, "target-flags(riscv-hi) @operations"), ("divide", 1, "target-flags(riscv-hi) @.str.2"),
+                                 ("multiply", 1, "PseudoTAIL @__muldi3")):
+        got = run("examples/debug.py", output, name, "5", "3")
+        check(f"debug.py of {name}", got[0] == status and wanted in got[1] + got[2], got[1] + got[2])
+
+
 def debugger(room):
     files = {}
     for name in (LEDGER, TOTALS):
@@ -313,6 +346,7 @@ def main():
     with tempfile.TemporaryDirectory() as room:
         marks(room)
         wrapper(room)
+        linked(room)
         view(room, debugger(room))
     print(f"{passed} passed, {failed} failed")
     return 1 if failed else 0

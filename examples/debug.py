@@ -16,7 +16,8 @@ address of what the Nth --bytes or --longs puts into memory.
                      `gdb-multiarch -ex 'set trust-readonly-sections on' -ex 'target remote :1234' FILE`
 
 The sections go into an ELF file for 64-bit RISC-V as they are; beside them comes a start that calls the function and ends with its result. Where
-a function of OUTPUT is called, the two words of the call get its distance, as a linker does it. Then llvm-dwarfdump verifies the sections, and gdb
+a function of OUTPUT is called, the two words of the call get its distance, as a linker does it; a function with addresses of symbols, calls in tail
+position or calls that don't return (`compile --linked`) isn't run. Then llvm-dwarfdump verifies the sections, and gdb
 steps through the function on qemu's processor, line by line, and prints its variables: `-` is one without a place, `*` stands behind each that
 differs from the stop before. The last line says the result if the function returned, else where it stopped and why. Of a frame it prints the CFA
 (the stack pointer that the caller had at the call) and the return address; of the innermost one also the variables, and of each other one the
@@ -379,14 +380,17 @@ def main():
             sys.exit(f"{tool} is missing: Debian's package {package} has it")
     dwarfdump = dwarf.dwarfdump()
     with open(words[0], encoding="utf-8", errors="replace") as it:
+        text = it.read()
         try:
-            sections, functions, calls = executable.output_of(it.read())
+            sections, functions, calls = executable.output_of(text)
         except ValueError:
             sections = {}
     if ".text" not in sections:
         sys.exit(f"{words[0]} isn't what `compile` writes: it has no section .text")
     if words[1] not in functions:
         sys.exit(f"{words[0]} has no function {words[1]}; it has {', '.join(functions)}")
+    if line := executable.left_open(text, functions, calls, words[1]):
+        sys.exit(f"{words[1]} or what it calls has code that a linker completes, and this script fills in the distances of calls that return alone:\n  {line}")
     if len(sections[".text"]) > executable.START:
         sys.exit(f"the code has {len(sections['.text'])} bytes, and this script has room for {executable.START}")
     if given["backtrace"] and ".debug_frame" not in sections:

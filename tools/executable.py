@@ -29,6 +29,22 @@ def output_of(text):
     return sections, functions, calls
 
 
+def left_open(text, functions, calls, name):
+    """The first line of a function, or of those that it calls, that needs more of a linker than the distance of a call that returns: a half of an address,
+    a call in tail position or one that doesn't return; or None."""
+    reached, waiting = {}, [name]
+    while waiting:
+        one = waiting.pop()
+        if one in functions and one not in reached:
+            low, high = reached[one] = functions[one]
+            waiting += [to for at, to in calls if low <= at < high]
+    for line in text.splitlines():
+        found = re.match(r"([0-9a-f]{8}) \S+ (noreturn |PseudoTAIL |.*target-flags\(riscv-)", line)
+        if found and any(low <= int(found[1], 16) < high for low, high in reached.values()):
+            return line
+    return None
+
+
 def addi(rd, rs, n):
     return (n & 0xFFF) << 20 | rs << 15 | rd << 7 | 0x13
 
