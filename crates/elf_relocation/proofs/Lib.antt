@@ -1,0 +1,3 @@
+pub mod Patches
+pub mod FieldLemmas
+pub mod AppliedLemmas

@@ -1,0 +1,4 @@
+pub mod Standard
+pub mod Kinds
+pub mod Fields
+pub mod Applied

@@ -1,0 +1,3 @@
+pub mod Steps
+pub mod PlacedText
+pub mod LineProofs
