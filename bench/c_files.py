@@ -27,7 +27,7 @@ REFUSED = [
     ("a string", "long g(const char *);\nlong f(void) { return g(\"text\") + 1; }", None, "UnknownOpcode", "a string or a function is read with --linked",
      "as an argument"),
     ("a global variable", "long counter;\nlong f(void) { return ++counter; }", None, "BadOperands", "The address of a global variable", "as an argument"),
-    ("a large constant", "long f(long a) { return a ^ 0x123456789abcdef1; }", POOL, "BadLine", "a constant pool isn't read", POOL),
+    ("a large constant", "long f(long a) { return a ^ 0x123456789abcdef1; }", POOL, "BadLine", "a constant pool is read with --linked", POOL),
     ("inline assembler", "long f(long a) { __asm__ volatile(\"nop\"); return a; }", None, "BadByte", "Inline assembler isn't read", "Call a function"),
     ("a trap", "long f(long a) { if (a) __builtin_trap(); return a; }", None, "UnknownOpcode", "A trap isn't read", "__builtin_trap()"),
     ("a ninth argument", "long f(long a, long b, long c, long d, long e, long g, long h, long i, long j) { return a + j; }", None, "StackObject",
