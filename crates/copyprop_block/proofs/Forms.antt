@@ -117,8 +117,7 @@ module _ (e : List Root) where
   form_renamed PseudoBr os = jump os
   form_renamed PseudoCall os = call os
   form_renamed PseudoRet os = all_same is_result result_one os
-  form_renamed PseudoCallIndirect (ImplicitUse r ∷ Mask ∷ rest) =
-      ap (λ (z : Bool). is_call_register r && z) (all_same is_argument argument_one rest)
+  form_renamed PseudoCallIndirect (Use r ∷ Mask ∷ rest) = all_same is_argument argument_one rest
   form_renamed PseudoTail (Symbol name ∷ rest) = all_same is_tail_use tail_one rest
   form_renamed PseudoTailIndirect (ImplicitUse r ∷ rest) =
       ap (λ (z : Bool). is_held_tail_register r && z) (all_same is_held_tail_use held_tail_one rest)

@@ -1,3 +1,4 @@
 pub mod Roots
 pub mod Copied
 pub mod Next
+pub use Rattle.pass_salvage.specs as pass_salvage

@@ -2,6 +2,7 @@
 use Rattle.std.specs.Prelude.{ℕ, zero, suc, List, [], ◌∷◌, ◌++◌, map, filter, Option, Some, None, Bool, cond, not, ◌&&◌, nat_eq}
 use Rattle.rv64_instr.specs.declared.operand.Operand.{Operand}
 use Rattle.rv64_instr.specs.declared.operand.Operand.TheVariants.{Def, Use, ImplicitDef, ImplicitUse, Imm, Slot, Object, Part, Outgoing, Block, Symbol, Mask}
+use Rattle.rv64_instr.specs.declared.operand.Operand.TheVariants.{GlobalRegisters}
 use Rattle.rv64_instr.specs.declared.place.Place.TheVariants.{Register}
 use Rattle.rv64_instr.specs.Instruction.{Instruction}
 use Rattle.rv64_instr.specs.Row.{Row, Moves}
@@ -25,13 +26,14 @@ renamed_operand e (Slot n) = Slot n
 renamed_operand e (Object n) = Object n
 renamed_operand e (Part half y) = Part half y
 renamed_operand e (Outgoing n) = Outgoing n
+renamed_operand e GlobalRegisters = GlobalRegisters
 renamed_operand e (Block n) = Block n
 renamed_operand e (Symbol name) = Symbol name
 renamed_operand e Mask = Mask
 
 -- the instruction with roots for its explicit uses (LLVM: `forwardUses` of MachineCopyPropagation)
 abbrev pub renamed : List Root → Instruction → Instruction
-renamed e i = record { op = i.op; operands = map (renamed_operand e) i.operands }
+renamed e i = record i { operands = map (renamed_operand e) i.operands }
 
 -- the source of a redundant copy: the target is the source itself, or has it as its root
 abbrev pub known_source : List Root → Row → Option ℕ

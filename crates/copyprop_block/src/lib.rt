@@ -6,5 +6,7 @@
 //! rule.
 #![tactic(auto)]
 
+pub use pass_salvage as pass_salvage_crate;
+
 pub mod copies;
 pub mod roots;

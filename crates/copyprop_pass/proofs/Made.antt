@@ -4,7 +4,7 @@ use Rattle.mir_func.specs.declared.block.Block.{Block}
 use Rattle.mir_func.specs.declared.debug_substitution.DebugSubstitution.{DebugSubstitution}
 use Rattle.mir_func.specs.Function.{Function}
 use Rattle.mir_func.specs.Sound.{IsSound}
-use Rattle.copyprop_rule.specs.Rule.{salvaged_function}
+use Rattle.copyprop_proof.specs.copyprop_rule.Rule.{salvaged_function}
 use Rattle.copyprop_proof.proofs.Follows.{copies_follow}
 
 pub sound_made : (f : Function) (subs : List DebugSubstitution) (bs : List Block) → IsSound f → bs ≡ (salvaged_function f subs).blocks →

@@ -3,12 +3,12 @@
 ghost use Rattle.std.specs.Prelude.{◌≡◌, ◌+◌, ◌<◌, ◌^◌, [], ◌∷◌, false, true, OnOk};
 ghost use Rattle.mir_func.specs.Sound.{IsSound};
 ghost use Rattle.pass_trait.specs.Sizes.{greatest_number, item_count};
-ghost use Rattle.copyprop_rule.specs.Rule.{salvaged_function, salvaged_entries};
-ghost use Rattle.copyprop_rule.specs.Laws.{one_copied, same_copied};
+ghost use Rattle.copyprop_proof.specs.copyprop_rule.Rule.{salvaged_function, salvaged_entries};
+ghost use Rattle.copyprop_proof.specs.copyprop_rule.Laws.{one_copied, same_copied};
 ghost use Rattle.copyprop_proof.specs.Rule.{copy_step};
 ghost use Rattle.std.proofs.Common.{rules};
 
-use copyprop_rule::function::blocks_without_copies;
+use copyprop_proof::copyprop_rule_crate::function::blocks_without_copies;
 use mir_func::func::Func;
 use mir_substitution::substitutions::Substitutions;
 use pass_trait::loss::Losses;

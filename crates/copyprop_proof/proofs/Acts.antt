@@ -1,8 +1,9 @@
 -- Code with roots for its explicit uses does what the code did, where copies hold what their roots hold.
-use Rattle.std.proofs.Common.{◌≡◌, ℕ, zero, suc, ◌+◌, ◌%◌, ◌^◌, List, [], ◌∷◌, map, Option, Some, None, Bool, true, false, cond, ◌&&◌, slice_get, is_some, refl}
+use Rattle.std.proofs.Common.{◌≡◌, ℕ, zero, suc, ◌+◌, ◌%◌, ◌^◌, List, [], ◌∷◌, ◌++◌, map, Option, Some, None, Bool, true, false, cond, ◌&&◌, slice_get, is_some, refl}
 use Rattle.std.proofs.Common.{sym, ap, ◌∙◌}
 use Rattle.rv64_instr.specs.declared.operand.Operand.{Operand}
 use Rattle.rv64_instr.specs.declared.operand.Operand.TheVariants.{Def, Use, ImplicitDef, ImplicitUse, Imm, Slot, Object, Part, Outgoing, Block, Symbol, Mask}
+use Rattle.rv64_instr.specs.declared.operand.Operand.TheVariants.{GlobalRegisters}
 use Rattle.rv64_instr.specs.declared.symbol.Half.TheVariants.{Lower}
 use Rattle.rv64_instr.specs.Linked.{linked_value}
 use Rattle.rv64_instr.specs.Row.{Input, Content, Number, PartOf}
@@ -13,18 +14,20 @@ use Rattle.rv64_instr.specs.declared.op.LoadOp.TheVariants.{Ld}
 use Rattle.rv64_instr.specs.declared.op.StoreOp.{StoreOp}
 use Rattle.rv64_instr.specs.declared.op.RegisterOp.TheVariants.{Add}
 use Rattle.rv64_instr.specs.Instruction.{Instruction}
-use Rattle.rv64_instr.specs.Row.{Row, Moves, Sets, Loads, Stores, StoresSlot, Branches, row_of}
-use Rattle.rv64_instr.specs.DefsAndUses.{reads}
+use Rattle.rv64_instr.specs.Row.{Row, Moves, Sets, Loads, Stores, StoresSlot, Branches, Calls, Callee, Named, Held, row_of}
+use Rattle.rv64_instr.specs.declared.start.CallTarget.{CallTarget}
+use Rattle.rv64_instr.specs.declared.start.CallTarget.TheVariants.{Address}
+use Rattle.rv64_instr.specs.DefsAndUses.{reads, callee_reads}
 use Rattle.rv64_instr.specs.LocationEffects.{is_call}
 use Rattle.mir_func.specs.declared.item.ItemKind.TheVariants.{Code}
 use Rattle.mir_func.specs.Graph.{Program}
 use Rattle.sem_mir.specs.State.{Core, content, updated}
 use Rattle.sem_mir.specs.Step.{Falls, Goes, Traps, or_zero, read, input_value, base_value, address_at, is_fault, set_register, loaded}
-use Rattle.sem_mir.specs.Step.{put_in_memory}
+use Rattle.sem_mir.specs.Step.{put_in_memory, called_at, passed, exec_external_call}
 use Rattle.sem_mir.specs.Step.{does, are_written, act, numbered, given, defined, with_core, do_item}
 use Rattle.copyprop_block.specs.declared.roots.Root.{Root}
 use Rattle.copyprop_block.specs.Roots.{root_of, renamed_operand, renamed}
-use Rattle.copyprop_rule.proofs.Rows.{rooted_input, rooted_base, rooted, KeepsZero, row_renamed, call_rooted}
+use Rattle.copyprop_rule.proofs.Rows.{rooted_input, rooted_base, rooted_callee, rooted, KeepsZero, row_renamed, call_rooted}
 
 module _ (e : List Root) (d : Core) (holds : (r : ℕ) → content d.regs r ≡ content d.regs (root_of e r)) where
   read_root : (r : ℕ) → read d (root_of e r) ≡ read d r
@@ -58,6 +61,10 @@ module _ (e : List Root) (d : Core) (holds : (r : ℕ) → content d.regs r ≡ 
   stored_root op (ObjectAt n) a a' v v' is same = λ i. put_in_memory op (ObjectAt n) (is i) (same i) d
   stored_root op (BesidePart r y) a a' v v' is same = λ i. put_in_memory op (BesidePart r y) (is i) (same i) d
 
+  called_root : (callee : Callee) → called_at d (rooted_callee e callee) ≡ called_at d callee
+  called_root (Named name) = refl
+  called_root (Held r) = ap Address (read_root r)
+
   does_root : (r : Row) → does (rooted e r) d ≡ does r d
   unfolding does
   does_root (Moves rd rs) = ap (λ (v : ℕ). Falls (set_register rd v d)) (read_root rs)
@@ -67,6 +74,7 @@ module _ (e : List Root) (d : Core) (holds : (r : ℕ) → content d.regs r ≡ 
       stored_root op b (address_at d (rooted_base e b) o) (address_at d b o) (read d (root_of e rs)) (read d rs) (address_root b o) (read_root rs)
   does_root (StoresSlot rs n) = ap (λ (v : ℕ). Falls (record d { slots = updated n (Some v) d.slots })) (read_root rs)
   does_root (Branches op a b t) = let x = read_root a in let y = read_root b in λ i. cond (taken op (x i) (y i)) (Goes t d) (Falls d)
+  does_root (Calls call) = ap (λ (t : CallTarget). exec_external_call t (passed d call) call.outgoing d d.script) (called_root call.callee)
   does_root _ = refl
 
   one_written : (r : ℕ) → is_some (content d.regs (root_of e r)) ≡ is_some (content d.regs r)
@@ -82,6 +90,11 @@ module _ (e : List Root) (d : Core) (holds : (r : ℕ) → content d.regs r ≡ 
   base_written (ObjectAt n) = refl
   base_written (BesidePart r y) = let z = one_written r in λ i. z i && true
 
+  callee_written : (callee : Callee) (rest : List ℕ) →
+      are_written d (callee_reads (rooted_callee e callee) ++ rest) ≡ are_written d (callee_reads callee ++ rest)
+  callee_written (Named name) rest = refl
+  callee_written (Held r) rest = let x = one_written r in λ i. x i && are_written d rest
+
   rows_written : (r : Row) → are_written d (reads (rooted e r)) ≡ are_written d (reads r)
   rows_written (Moves rd rs) = let x = one_written rs in λ i. x i && true
   rows_written (Sets rd op a b) = input_written a b
@@ -89,6 +102,7 @@ module _ (e : List Root) (d : Core) (holds : (r : ℕ) → content d.regs r ≡ 
   rows_written (Stores op rs b o) = let x = one_written rs in let y = base_written b in λ i. x i && y i
   rows_written (StoresSlot rs n) = let x = one_written rs in λ i. x i && true
   rows_written (Branches op a b t) = let x = one_written a in let y = one_written b in λ i. x i && (y i && true)
+  rows_written (Calls call) = callee_written call.callee call.args
   rows_written _ = refl
 
   act_root : (r : Row) → act (rooted e r) d ≡ act r d
@@ -106,6 +120,7 @@ defined_one e false (Slot n) = refl
 defined_one e false (Object n) = refl
 defined_one e false (Part half y) = refl
 defined_one e false (Outgoing n) = refl
+defined_one e false GlobalRegisters = refl
 defined_one e false (Block n) = refl
 defined_one e false (Symbol n) = refl
 defined_one e false Mask = refl

@@ -59,6 +59,7 @@ copies_follow f subs sound =
                   back = g.shape.back;
                   order = g.shape.order;
                   items = g.shape.items;
+                  volatile = g.shape.volatile;
                   stores = stores_meet f.blocks new.blocks sound.blocks_apart (resolve subs) (resolve more) srcp fol.follows.shape.items sound.origins
                       (blocks_laid f.blocks (begins f subs) [] no_blocks) fol.follows.shape.stores;
                   marks = g.shape.marks;

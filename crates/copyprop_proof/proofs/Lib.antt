@@ -13,3 +13,4 @@ pub mod Lines
 pub mod Becomes
 pub mod Entries
 pub mod Kept
+pub use Rattle.copyprop_rule.proofs as copyprop_rule

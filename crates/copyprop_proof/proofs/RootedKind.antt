@@ -43,7 +43,16 @@ rooted_kin e (Fixes rd n) = row_itself (Fixes rd n)
 rooted_kin e (Addresses rd n o) = row_itself (Addresses rd n o)
 rooted_kin e (LoadsSlot rd n) = row_itself (LoadsSlot rd n)
 rooted_kin e (Jumps t) = row_itself (Jumps t)
-rooted_kin e (Calls call) = row_itself (Calls call)
+rooted_kin e (Calls call) = record {
+  class = refl;
+  jump = refl;
+  may = λ k source_end h. h;
+  goes = λ n h. h;
+  end = λ t h. absurd (no_sets (Calls call) (λ z. z) t h);
+  is_end = λ h. h;
+  save = λ h. h;
+  edge = λ p q p' h. inl (h, refl);
+}
 rooted_kin e (Returns v) = row_itself (Returns v)
 rooted_kin e Unfit = row_itself Unfit
 rooted_kin e (Moves rd rs) = record {
@@ -111,6 +120,6 @@ rooted_kin e (Branches op a b t) = record {
 }
 
 pub kind_kin : (e : List Root) → KeepsZero e → (k : ItemKind) → Kin k (renamed_kind e k)
-kind_kin e keeps (Code i n) = code_kin (subst (RowKin (row_of i)) (sym (row_renamed e keeps i)) (rooted_kin e (row_of i)))
+kind_kin e keeps (Code i n) = code_kin (subst (RowKin (row_of i)) (sym (row_renamed e keeps i)) (rooted_kin e (row_of i))) refl
 kind_kin e keeps (Mark v m) = kin_itself (Mark v m)
 kind_kin e keeps (Phi p n) = kin_itself (Phi p n)

@@ -34,8 +34,8 @@ use Rattle.copyprop_proof.proofs.Chain.{clean_next}
 
 -- a register moved into itself
 abbrev pub self_copy : Row → Instruction
-self_copy (Moves rd s) = record { op = Copy; operands = Def rd ∷ Use rd ∷ [] }
-self_copy _ = record { op = Copy; operands = [] }
+self_copy (Moves rd s) = record { op = Copy; operands = Def rd ∷ Use rd ∷ []; volatile = false }
+self_copy _ = record { op = Copy; operands = []; volatile = false }
 
 abbrev pub selfed_kind : List Root → ItemKind → ItemKind
 selfed_kind e (Code i n) = cond (is_some (known_source e (row_of (renamed e i)))) (Code (self_copy (row_of (renamed e i))) n) (Code (renamed e i) n)

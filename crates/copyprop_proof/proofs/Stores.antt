@@ -301,7 +301,7 @@ append_edited (out how rest) more = out how (append_edited rest more)
 append_edited (put code origin how rest) more = put code origin how (append_edited rest more)
 
 kin_numbered : (n : ℕ) (k l : ItemKind) → Kin k l → Kin k (with_number n l)
-kin_numbered n k l (code_kin h) = code_kin h
+kin_numbered n k l (code_kin h loads) = code_kin h loads
 kin_numbered n k l (mark_kin h) = mark_kin h
 kin_numbered n k l phi_kin = phi_kin
 

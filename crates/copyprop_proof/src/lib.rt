@@ -15,6 +15,8 @@
 //!   that replace it, and the number that it got.
 #![tactic(auto)]
 
+pub use copyprop_rule as copyprop_rule_crate;
+
 pub mod debug_laws;
 pub mod removal_laws;
 pub mod run_laws;

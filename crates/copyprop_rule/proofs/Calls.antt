@@ -7,10 +7,10 @@ use Rattle.rv64_instr.specs.declared.op.Op.TheVariants.{PseudoTail, PseudoTailIn
 use Rattle.rv64_instr.specs.declared.op.ImmediateOp.{ImmediateOp}
 use Rattle.rv64_instr.specs.declared.op.ImmediateOp.TheVariants.{Addi}
 use Rattle.rv64_instr.specs.declared.operand.Operand.{Operand}
-use Rattle.rv64_instr.specs.declared.operand.Operand.TheVariants.{Def, Use, Imm, Slot, Object, Block, Symbol, ImplicitUse, Outgoing}
+use Rattle.rv64_instr.specs.declared.operand.Operand.TheVariants.{Def, Use, Imm, Slot, Object, Block, Symbol, ImplicitUse}
 use Rattle.rv64_instr.specs.Arithmetic.{word}
 use Rattle.rv64_instr.specs.Instruction.{Instruction}
-use Rattle.rv64_instr.specs.Row.{row_of, row_by, move_row, add_row, immediate_row, implicit_uses, outgoing_words, held_call, held_tail, held_gone}
+use Rattle.rv64_instr.specs.Row.{row_of, row_by, move_row, add_row, immediate_row, implicit_uses, held_tail, held_gone}
 use Rattle.rv64_instr.specs.LocationEffects.{is_call}
 use Rattle.copyprop_block.specs.declared.roots.Root.{Root}
 use Rattle.copyprop_block.specs.Roots.{root_of, renamed_operand, renamed}
@@ -42,11 +42,6 @@ module _ (e : List Root) where
   uses_kept (ImplicitUse r ∷ os) = ap (λ (z : List ℕ). cond (nat_eq r 2) z (r ∷ z)) (uses_kept os)
   uses_kept (_ ∷ os) = uses_kept os
 
-  outgoing_kept : (os : List Operand) → outgoing_words (map (renamed_operand e) os) ≡ outgoing_words os
-  outgoing_kept [] = refl
-  outgoing_kept (Outgoing n ∷ os) = ap (λ (z : List ℕ). n ∷ z) (outgoing_kept os)
-  outgoing_kept (_ ∷ os) = outgoing_kept os
-
   by_op : (op : Op) (os : List Operand) → is_call (row_by op (map (renamed_operand e) os)) ≡ is_call (row_by op os)
   by_op (Registers op) (Def rd ∷ Use a ∷ Use b ∷ rest) = refl
   by_op (Immediate op) (Def rd ∷ Use a ∷ Imm i ∷ rest) = no_immediate op rd (root_of e a) (word i) ∙ sym (no_immediate op rd a (word i))
@@ -63,7 +58,7 @@ module _ (e : List Root) where
   by_op PseudoBr (Block target ∷ rest) = refl
   by_op PseudoCall (Symbol name ∷ rest) = refl
   by_op PseudoRet os = refl
-  by_op PseudoCallIndirect os = λ i. is_call (held_call (uses_kept os i) (outgoing_kept os i))
+  by_op PseudoCallIndirect (Use r ∷ rest) = refl
   by_op PseudoTail (Symbol name ∷ rest) = refl
   by_op PseudoTailIndirect os = no_held_tail (implicit_uses (map (renamed_operand e) os)) ∙ sym (no_held_tail (implicit_uses os))
   by_op NoReturnCall (Symbol name ∷ rest) = refl

@@ -15,10 +15,10 @@ use Rattle.mir_func.specs.declared.location.Loc.{Loc}
 use Rattle.mir_func.specs.declared.position.Origin.{Origin}
 use Rattle.mir_func.specs.Sound.{items_of, AllItems}
 use Rattle.pass_trait.specs.Rule.{item}
-use Rattle.pass_salvage.specs.declared.salvage_action.SalvageAction.{SalvageAction}
-use Rattle.pass_salvage.specs.declared.salvage_action.SalvageAction.TheVariants.{HasEntry, GetsEntry, GetsPhi}
-use Rattle.pass_salvage.specs.SalvageAction.{salvage_action}
-use Rattle.pass_salvage.specs.Salvage.{with_number, numbered_at, above_after, put_for, phi_for}
+use Rattle.copyprop_block.specs.pass_salvage.declared.salvage_action.SalvageAction.{SalvageAction}
+use Rattle.copyprop_block.specs.pass_salvage.declared.salvage_action.SalvageAction.TheVariants.{HasEntry, GetsEntry, GetsPhi}
+use Rattle.copyprop_block.specs.pass_salvage.SalvageAction.{salvage_action}
+use Rattle.copyprop_block.specs.pass_salvage.Salvage.{with_number, numbered_at, above_after, put_for, phi_for}
 use Rattle.copyprop_block.specs.declared.roots.Root.{Root}
 use Rattle.copyprop_block.specs.Roots.{renamed, known_source}
 use Rattle.copyprop_block.specs.Copied.{SoFar, renamed_kind, roots_with, goes_by, by_fate, next_item, over_items, at_block, BlocksSoFar}

@@ -15,7 +15,7 @@ use Rattle.rv64_instr.specs.Arithmetic.{word}
 use Rattle.rv64_instr.specs.Instruction.{Instruction}
 use Rattle.rv64_instr.specs.declared.symbol.Half.TheVariants.{Upper}
 use Rattle.rv64_instr.specs.Row.{Row, Fixes, Moves, Sets, Addresses, Loads, Stores, LoadsSlot, StoresSlot, Branches, Jumps, Calls, Returns, Unfit, row_of}
-use Rattle.rv64_instr.specs.Row.{row_by, move_row, add_row, immediate_row, object_row, implicit_uses, outgoing_words, Named, Back, held_call, held_tail}
+use Rattle.rv64_instr.specs.Row.{row_by, move_row, add_row, immediate_row, object_row, implicit_uses, outgoing_words, Callee, Named, Held, Back, held_tail}
 use Rattle.rv64_instr.specs.Row.{held_gone}
 use Rattle.rv64_instr.specs.Row.{Tail, Never}
 use Rattle.rv64_instr.specs.LocationEffects.{is_call}
@@ -33,6 +33,10 @@ module _ (e : List Root) where
   rooted_base (ObjectAt n) = ObjectAt n
   rooted_base (BesidePart r y) = BesidePart (root_of e r) y
 
+  abbrev pub rooted_callee : Callee → Callee
+  rooted_callee (Named name) = Named name
+  rooted_callee (Held r) = Held (root_of e r)
+
   -- the row with roots for what it reads by explicit operands
   abbrev pub rooted : Row → Row
   rooted (Fixes rd n) = Fixes rd n
@@ -45,7 +49,7 @@ module _ (e : List Root) where
   rooted (StoresSlot rs n) = StoresSlot (root_of e rs) n
   rooted (Branches op a b t) = Branches op (root_of e a) (root_of e b) t
   rooted (Jumps t) = Jumps t
-  rooted (Calls call) = Calls call
+  rooted (Calls call) = Calls (record { callee = rooted_callee call.callee; args = call.args; outgoing = call.outgoing })
   rooted (Returns v) = Returns v
   rooted Unfit = Unfit
 
@@ -95,10 +99,6 @@ module _ (e : List Root) where
     object_same Addi rd n o = refl
     object_same _ rd n o = refl
 
-    held_call_same : (xs outgoing : List ℕ) → held_call xs outgoing ≡ rooted (held_call xs outgoing)
-    held_call_same [] outgoing = refl
-    held_call_same (r ∷ xs) outgoing = refl
-
     held_tail_same : (xs : List ℕ) → held_tail xs ≡ rooted (held_tail xs)
     held_tail_same [] = refl
     held_tail_same (r ∷ xs) = refl
@@ -124,7 +124,8 @@ module _ (e : List Root) where
     by_op PseudoBr (Block target ∷ rest) = refl
     by_op PseudoCall (Symbol name ∷ rest) = λ i. Calls (record { callee = Named name; args = uses_same rest i; outgoing = outgoing_same rest i })
     by_op PseudoRet os = ap (λ (rs : List ℕ). Returns (record { way = Back; values = rs })) (uses_same os)
-    by_op PseudoCallIndirect os = (λ i. held_call (uses_same os i) (outgoing_same os i)) ∙ held_call_same (implicit_uses os) (outgoing_words os)
+    by_op PseudoCallIndirect (Use r ∷ rest) =
+        λ i. Calls (record { callee = Held (root_of e r); args = uses_same rest i; outgoing = outgoing_same rest i })
     by_op PseudoTail (Symbol name ∷ rest) = ap (λ (rs : List ℕ). Returns (record { way = Tail (Named name); values = rs })) (uses_same rest)
     by_op PseudoTailIndirect os = ap held_tail (uses_same os) ∙ held_tail_same (implicit_uses os)
     by_op NoReturnCall (Symbol name ∷ rest) = ap (λ (rs : List ℕ). Returns (record { way = Never (Named name); values = rs })) (uses_same rest)

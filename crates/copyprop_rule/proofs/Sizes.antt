@@ -28,11 +28,11 @@ use Rattle.sem_mir.specs.Align.{is_code}
 use Rattle.pass_trait.specs.Change.{change}
 use Rattle.pass_trait.specs.Rule.{item}
 use Rattle.pass_trait.specs.Sizes.{greatest, numbers_of, greatest_number, item_count, KeepsSizes}
-use Rattle.pass_salvage.specs.declared.salvage_action.SalvageAction.{SalvageAction}
-use Rattle.pass_salvage.specs.declared.salvage_action.SalvageAction.TheVariants.{HasEntry, GetsEntry, GetsPhi}
-use Rattle.pass_salvage.specs.SalvageAction.{or_fresh, salvage_action}
-use Rattle.pass_salvage.specs.Salvage.{with_number, numbered_at, put_for, entry_for}
-use Rattle.pass_salvage.proofs.Chosen.{IsEntered, entered}
+use Rattle.copyprop_block.specs.pass_salvage.declared.salvage_action.SalvageAction.{SalvageAction}
+use Rattle.copyprop_block.specs.pass_salvage.declared.salvage_action.SalvageAction.TheVariants.{HasEntry, GetsEntry, GetsPhi}
+use Rattle.copyprop_block.specs.pass_salvage.SalvageAction.{or_fresh, salvage_action}
+use Rattle.copyprop_block.specs.pass_salvage.Salvage.{with_number, numbered_at, put_for, entry_for}
+use Rattle.copyprop_block.proofs.pass_salvage.Chosen.{IsEntered, entered}
 use Rattle.copyprop_block.specs.declared.roots.Root.{Root}
 use Rattle.copyprop_block.specs.Roots.{root_of, renamed_operand, renamed, known_source, roots_after}
 use Rattle.copyprop_block.specs.Copied.{SoFar, renamed_kind, roots_with, goes_by, by_fate, salvaged, next_item, over_items, at_block, BlocksSoFar, next_block}

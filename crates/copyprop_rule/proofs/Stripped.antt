@@ -13,10 +13,10 @@ use Rattle.mir_func.specs.declared.position.Origin.{Origin}
 use Rattle.mir_func.specs.Function.{Function}
 use Rattle.mir_func.specs.Strip.{stripped_item, stripped_items, stripped_block, stripped_blocks, stripped}
 use Rattle.pass_trait.specs.Rule.{item}
-use Rattle.pass_salvage.specs.declared.salvage_action.SalvageAction.{SalvageAction}
-use Rattle.pass_salvage.specs.declared.salvage_action.SalvageAction.TheVariants.{HasEntry, GetsEntry, GetsPhi}
-use Rattle.pass_salvage.specs.SalvageAction.{salvage_action}
-use Rattle.pass_salvage.specs.Salvage.{numbered_at, above_after, put_for}
+use Rattle.copyprop_block.specs.pass_salvage.declared.salvage_action.SalvageAction.{SalvageAction}
+use Rattle.copyprop_block.specs.pass_salvage.declared.salvage_action.SalvageAction.TheVariants.{HasEntry, GetsEntry, GetsPhi}
+use Rattle.copyprop_block.specs.pass_salvage.SalvageAction.{salvage_action}
+use Rattle.copyprop_block.specs.pass_salvage.Salvage.{numbered_at, above_after, put_for}
 use Rattle.copyprop_block.specs.Roots.{renamed, known_source, roots_after}
 use Rattle.copyprop_block.specs.Copied.{SoFar, goes_by, by_fate, next_item, over_items, at_block, BlocksSoFar, next_block, over_blocks}
 use Rattle.copyprop_rule.specs.Rule.{copied_items, copied_block, copied, begins, salvaged_function}

@@ -7,10 +7,10 @@ ghost use Rattle.copyprop_block.specs.Copied.{over_blocks};
 ghost use Rattle.copyprop_rule.specs.Rule.{salvaged_function, salvaged_entries};
 
 use copyprop_block::copies::copy_items;
+use copyprop_block::pass_salvage_crate::fresh::fresh_number;
 use mir_func::block::{Block, Blocks, copy_blocks};
 use mir_func::func::Func;
 use mir_substitution::substitutions::Substitutions;
-use pass_salvage::fresh::fresh_number;
 use std::alloc::{AllocError, Global};
 
 /// Removes the redundant copies from blocks, in the order of the text.

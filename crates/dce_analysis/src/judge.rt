@@ -5,7 +5,7 @@ ghost use Rattle.rv64_instr.specs.Row.{row_of};
 ghost use Rattle.mir_func.specs.Sound.{SlotsIn};
 ghost use Rattle.pass_liveness.specs.Sets.{has};
 ghost use Rattle.pass_liveness.specs.Liveness.{AreLiveSets};
-ghost use Rattle.dce_rule.specs.Dead.{is_dead_row, is_dead};
+ghost use Rattle.dce_rule.specs.Dead.{is_dead_row, is_dead_code, is_dead};
 ghost use Rattle.rv64_instr.specs.LocationEffects.{defines_of};
 ghost use Rattle.rv64_instr.specs.declared.place.Place.TheVariants.{Register};
 ghost use Rattle.dce_analysis.specs.Judge.{verdicts, AreJudged};
@@ -74,8 +74,15 @@ fn is_dead(live: &Live, needed: &PlaceSet, kind: &ItemKind) -> bool
     }
 }
 
-/// Whether an instruction has no effect except to set a place that isn't needed, or x0.
+/// Whether an instruction has no effect except to set a place that isn't needed, or x0. A volatile load has others.
 fn is_dead_code(live: &Live, needed: &PlaceSet, i: &Instr) -> bool
+    ensures { result ≡ is_dead_code i.now (has live.now.slots needed.now) }
+{
+    sets_unneeded(live, needed, i) && !i.is_volatile_load()
+}
+
+/// Whether an instruction only sets a place that isn't needed, or x0; a load may read memory besides.
+fn sets_unneeded(live: &Live, needed: &PlaceSet, i: &Instr) -> bool
     ensures { result ≡ is_dead_row (row_of i.now) (has live.now.slots needed.now) }
 {
     let effect = i.effect();

@@ -7,7 +7,7 @@ use Rattle.pass_trait.specs.declared.loss.Loss.{Loss}
 use Rattle.pass_trait.specs.Change.{change}
 use Rattle.pass_trait.specs.Sizes.{code_count}
 use Rattle.pass_trait.specs.Steps.{KeepsStep, KeepsSteps}
-use Rattle.dce_rule.specs.Dead.{IsRound}
+use Rattle.dce_proof.specs.dce_rule.Dead.{IsRound}
 use Rattle.dce_proof.specs.DebugRule.{dead_rule}
 use Rattle.dce_proof.proofs.Whole.{round_keeps}
 use Rattle.dce_proof.proofs.Idle.{idle_keeps}

@@ -11,12 +11,12 @@ use Rattle.mir_func.specs.Strip.{stripped}
 use Rattle.pass_trait.specs.declared.loss.Loss.{Loss}
 use Rattle.pass_trait.specs.Change.{change}
 use Rattle.pass_trait.specs.Sizes.{greatest, item_count, KeepsSizes}
-use Rattle.dce_rule.specs.Dead.{Places, Ends, is_dead, needed_at, without_dead, thinned_block, IsRound, IsThinnedOut, over, again}
-use Rattle.dce_rule.specs.Wrong.{silenced, silenced_left, silenced_block, taken_out}
-use Rattle.pass_edits.specs.WeakSimulation.{PreservesWeakSimulation}
-use Rattle.dce_rule.proofs.Stripped.{round_stripped}
-use Rattle.dce_rule.proofs.Chain.{loose_laws}
-use Rattle.dce_sweep.proofs.None.{silent_itself}
+use Rattle.dce_proof.specs.dce_rule.Dead.{Places, Ends, is_dead, needed_at, without_dead, thinned_block, IsRound, IsThinnedOut, over, again}
+use Rattle.dce_proof.specs.dce_rule.Wrong.{silenced, silenced_left, silenced_block, taken_out}
+use Rattle.dce_proof.specs.pass_edits.WeakSimulation.{PreservesWeakSimulation}
+use Rattle.dce_proof.proofs.dce_rule.Stripped.{round_stripped}
+use Rattle.dce_proof.proofs.dce_rule.Chain.{loose_laws}
+use Rattle.dce_proof.proofs.dce_sweep.None.{silent_itself}
 use Rattle.dce_proof.proofs.Follows.{round_follows, round_code}
 use Rattle.dce_proof.specs.SizeLaws.{IsNoLarger}
 use Rattle.dce_proof.proofs.Round.{round_sizes}

@@ -6,7 +6,7 @@ use Rattle.mir_func.specs.Function.{Function}
 use Rattle.mir_func.specs.Sound.{IsSound}
 use Rattle.pass_trait.specs.declared.loss.Loss.{Loss}
 use Rattle.pass_trait.specs.Sizes.{greatest_number, item_count}
-use Rattle.dce_rule.specs.Dead.{IsRound}
+use Rattle.dce_proof.specs.dce_rule.Dead.{IsRound}
 use Rattle.dce_proof.specs.Round.{IsDeadRound}
 use Rattle.dce_proof.proofs.Round.{round_sizes}
 use Rattle.dce_pass.specs.Rounds.{AreDeadRounds, ended, and_round}

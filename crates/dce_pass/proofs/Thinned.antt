@@ -10,8 +10,8 @@ use Rattle.mir_func.specs.Strip.{stripped}
 use Rattle.pass_trait.specs.Sizes.{item_count}
 use Rattle.pass_trait.specs.Steps.{MakesInTurn}
 use Rattle.pass_trait.proofs.Composition.{made_in_turn}
-use Rattle.dce_rule.specs.Dead.{Places, Ends, is_dead, needed_at, without_dead, thinned_block, thinned, IsRound, IsThinnedOut, over, again}
-use Rattle.dce_rule.proofs.Rounds.{one_round}
+use Rattle.dce_proof.specs.dce_rule.Dead.{Places, Ends, is_dead, needed_at, without_dead, thinned_block, thinned, IsRound, IsThinnedOut, over, again}
+use Rattle.dce_proof.proofs.dce_rule.Rounds.{one_round}
 use Rattle.dce_proof.specs.DebugRule.{dead_rule}
 use Rattle.dce_pass.specs.Steps.{repeated, round_step, most_rounds, dead_steps, StepsThinOut}
 use Rattle.dce_pass.proofs.Chain.{most_is}

@@ -3,7 +3,7 @@
 use Rattle.std.specs.Prelude.{ℕ, zero, suc}
 use Rattle.pass_trait.specs.Code.{CodeRule, HasOneResult, SeesCodeAlone}
 use Rattle.pass_trait.specs.Steps.{EachCode}
-use Rattle.dce_rule.specs.Dead.{IsRound}
+use Rattle.dce_proof.specs.dce_rule.Dead.{IsRound}
 use Rattle.dce_rule.proofs.Rounds.{one_round, round_alike}
 use Rattle.dce_proof.specs.DebugRule.{dead_rule}
 use Rattle.dce_pass.specs.Steps.{repeated, round_step, most_rounds, dead_steps}

@@ -3,7 +3,7 @@ use Rattle.std.specs.Prelude.{List, [], ◌++◌}
 use Rattle.mir_func.specs.declared.debug_substitution.DebugSubstitution.{DebugSubstitution}
 use Rattle.mir_func.specs.Function.{Function}
 use Rattle.pass_trait.specs.declared.loss.Loss.{Loss}
-use Rattle.dce_rule.specs.Dead.{IsRound}
+use Rattle.dce_proof.specs.dce_rule.Dead.{IsRound}
 use Rattle.dce_proof.specs.Round.{IsDeadRound}
 
 -- either nothing is dead, or there is a round and then more rounds; the losses are concatenated

@@ -8,7 +8,7 @@ use Rattle.pass_trait.specs.declared.loss.Loss.{Loss}
 use Rattle.pass_trait.specs.Change.{change}
 use Rattle.pass_trait.specs.Simulation.{PreservesSimulation}
 use Rattle.pass_trait.specs.Sizes.{KeepsSizes}
-use Rattle.dce_rule.specs.Dead.{IsThinnedOut}
+use Rattle.dce_proof.specs.dce_rule.Dead.{IsThinnedOut}
 use Rattle.dce_pass.specs.Rounds.{AreDeadRounds}
 
 -- complete rounds keep the function sound, preserve the simulation and keep the size bounds, and on stripped functions

@@ -9,7 +9,7 @@ use Rattle.pass_trait.specs.Change.{Change, change}
 use Rattle.pass_trait.specs.Rule.{Rule}
 use Rattle.pass_trait.specs.Sizes.{code_count, item_count}
 use Rattle.pass_trait.specs.Steps.{PassStep, KeepsSteps}
-use Rattle.dce_rule.specs.Dead.{IsRound, IsThinnedOut}
+use Rattle.dce_proof.specs.dce_rule.Dead.{IsRound, IsThinnedOut}
 use Rattle.dce_pass.specs.Rounds.{AreDeadRounds}
 use Rattle.dce_proof.specs.DebugRule.{dead_rule}
 

@@ -21,17 +21,17 @@ use Rattle.pass_salvage.specs.declared.salvage_action.SalvageAction.{SalvageActi
 use Rattle.pass_salvage.specs.declared.salvage_action.SalvageAction.TheVariants.{HasEntry, GetsEntry, GetsPhi}
 use Rattle.pass_salvage.specs.SalvageAction.{salvage_action}
 use Rattle.pass_salvage.specs.Salvage.{entry_for, entries_for, above_after, fresh_after}
-use Rattle.pass_edits.proofs.Numbers.{AreUnlike, all_first, all_second, HasCode}
-use Rattle.pass_edits.proofs.Under.{KindUnder, EntryUnder, greatest_under, items_under, blocks_under, entries_under}
+use Rattle.dce_round.proofs.pass_edits.Numbers.{AreUnlike, all_first, all_second, HasCode}
+use Rattle.dce_round.proofs.pass_edits.Under.{KindUnder, EntryUnder, greatest_under, items_under, blocks_under, entries_under}
 use Rattle.dce_salvage.specs.declared.salvage_numbers.Copied.{Copied}
 use Rattle.dce_salvage.specs.SalvageNumbers.{numbered_copy, added_by_salvage, salvaged_from, salvaged_items, SoFar}
 use Rattle.dce_salvage.specs.SalvageNumbers.{salvage_by, salvage_copy, copy_in, salvage_at, salvage_down}
 use Rattle.pass_salvage.specs.SalvageAction.{going_from}
 use Rattle.dce_salvage.specs.SalvageBlocks.{BlocksSoFar, in_block, salvage_block, salvage_next, salvage_blocks}
 use Rattle.dce_salvage.proofs.Down.{off_long}
-use Rattle.dce_salvage_proof.specs.SalvageLaws.{begins_off, all_off}
-use Rattle.dce_salvage_proof.proofs.Copy.{copy_of, split_at, Ready, copy_goes}
-use Rattle.dce_salvage_proof.proofs.Chain.{BlocksReady}
+use Rattle.dce_round.specs.dce_salvage_proof.SalvageLaws.{begins_off, all_off}
+use Rattle.dce_round.proofs.dce_salvage_proof.Copy.{copy_of, split_at, Ready, copy_goes}
+use Rattle.dce_round.proofs.dce_salvage_proof.Chain.{BlocksReady}
 use Rattle.dce_proof.proofs.Lines.{get_there}
 use Rattle.dce_proof.proofs.Entries.{HasAbove, Stands, stand_on, old_stand, new_stands}
 

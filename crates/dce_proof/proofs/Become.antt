@@ -29,14 +29,14 @@ use Rattle.pass_trait.specs.Rule.{IsCopy, StandsAt, item, item_before, number_lo
 use Rattle.pass_trait.specs.Causes.{IsWrong, removed, HasCause, code_removed, place_wrong, salvage_wrong, IsRemoved}
 use Rattle.pass_trait.specs.Debug.{RegisterStays, PlaceStays, Becomes, mark_stays, phi_stays, code_stays, code_numbered, code_unnumbered, code_goes}
 use Rattle.pass_trait.specs.Debug.{number_goes, substituted, salvaged, salvaged_wrong, mark_silenced, phi_silenced}
-use Rattle.dce_rule.specs.Dead.{Places, Ends, is_dead, needed_at, paths_of}
-use Rattle.dce_rule.specs.Wrong.{silenced, is_dead_at, IsWrongAt, made, on}
-use Rattle.dce_rule.proofs.Lists.{quiet}
-use Rattle.dce_analysis.specs.Judge.{AreJudged}
+use Rattle.dce_round.specs.dce_rule.Dead.{Places, Ends, is_dead, needed_at, paths_of}
+use Rattle.dce_round.specs.dce_rule.Wrong.{silenced, is_dead_at, IsWrongAt, made, on}
+use Rattle.dce_round.proofs.dce_rule.Lists.{quiet}
+use Rattle.dce_round.specs.dce_analysis.Judge.{AreJudged}
 use Rattle.dce_salvage.specs.declared.salvage_numbers.Copied.{Copied}
 use Rattle.dce_salvage.specs.SalvageNumbers.{copied_by, numbered_copy, phi_by_own, salvage_phi}
-use Rattle.dce_salvage_proof.specs.SalvageLaws.{all_off}
-use Rattle.dce_salvage_proof.proofs.Copy.{copy_of}
+use Rattle.dce_round.specs.dce_salvage_proof.SalvageLaws.{all_off}
+use Rattle.dce_round.proofs.dce_salvage_proof.Copy.{copy_of}
 use Rattle.dce_proof.specs.SalvageLedger.{Line, line_of}
 use Rattle.dce_proof.specs.DebugRule.{HasLine, Loses, number, copy, mark, phi, IsNumbered, dead_rule}
 use Rattle.dce_proof.proofs.Lines.{LineIs, as_it_was, by_entry, by_phi}

@@ -12,9 +12,9 @@ use Rattle.mir_func.specs.Graph.{EndOfBlock, end_of, from_block}
 use Rattle.mir_func.specs.Sound.{AreApart, ids_of}
 use Rattle.sem_mir.proofs.Reading.{apart_tail}
 use Rattle.pass_trait.specs.declared.loss.Loss.{Loss}
-use Rattle.dce_rule.specs.Dead.{Ends}
-use Rattle.dce_rule.proofs.Lists.{drop_all}
-use Rattle.dce_analysis.specs.Judge.{verdicts}
+use Rattle.dce_round.specs.dce_rule.Dead.{Ends}
+use Rattle.dce_round.proofs.dce_rule.Lists.{drop_all}
+use Rattle.dce_round.specs.dce_analysis.Judge.{verdicts}
 use Rattle.pass_salvage.specs.SalvageAction.{going_from}
 use Rattle.dce_salvage.specs.SalvageBlocks.{BlocksSoFar, in_block, salvage_block, salvage_blocks}
 use Rattle.dce_proof.specs.SalvageLedger.{Line, lines_down, lines_in}

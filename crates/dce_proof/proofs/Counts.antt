@@ -17,9 +17,9 @@ use Rattle.mir_func.specs.Successors.{pos_in}
 use Rattle.mir_func.specs.Calls.{is_call_kind}
 use Rattle.pass_trait.specs.Rule.{item}
 use Rattle.rv64_instr.specs.LocationEffects.{is_call}
-use Rattle.dce_rule.specs.Dead.{Places, Ends, is_dead, is_dead_row, needed_before, needed_at}
-use Rattle.dce_rule.specs.Wrong.{silenced, silenced_left, silenced_block}
-use Rattle.dce_analysis.specs.Judge.{verdicts}
+use Rattle.dce_round.specs.dce_rule.Dead.{Places, Ends, is_dead, is_dead_code, needed_before, needed_at}
+use Rattle.dce_round.specs.dce_rule.Wrong.{silenced, silenced_left, silenced_block}
+use Rattle.dce_round.specs.dce_analysis.Judge.{verdicts}
 
 -- ---- verdicts
 
@@ -75,12 +75,12 @@ as_stripped (x ∷ xs) needed = by_kind x.kind x.origin x.loc (as_stripped xs ne
   by_kind : (k : ItemKind) (o : Origin) (l : Loc) → AsStripped xs needed → AsStripped (item k o l ∷ xs) needed
   by_kind (Code i n) o l h =
       let d = h.dead in
-      let same : is_dead_row (row_of i) (needed_at (stripped_items xs) needed) ≡ is_dead_row (row_of i) (needed_at xs needed) =
-      ap (is_dead_row (row_of i)) h.same in
-      let e = trues_first (is_dead_row (row_of i) (needed_at (stripped_items xs) needed)) (verdicts (stripped_items xs) needed) in
-      let f = trues_first (is_dead_row (row_of i) (needed_at xs needed)) (verdicts xs needed) in
-      let g : ◌≡◌ {A = ℕ} (cond (is_dead_row (row_of i) (needed_at (stripped_items xs) needed)) 1 0)
-      (cond (is_dead_row (row_of i) (needed_at xs needed)) 1 0) = ap (λ (z : Bool). cond z 1 0) same in
+      let same : is_dead_code i (needed_at (stripped_items xs) needed) ≡ is_dead_code i (needed_at xs needed) =
+      ap (is_dead_code i) h.same in
+      let e = trues_first (is_dead_code i (needed_at (stripped_items xs) needed)) (verdicts (stripped_items xs) needed) in
+      let f = trues_first (is_dead_code i (needed_at xs needed)) (verdicts xs needed) in
+      let g : ◌≡◌ {A = ℕ} (cond (is_dead_code i (needed_at (stripped_items xs) needed)) 1 0)
+      (cond (is_dead_code i (needed_at xs needed)) 1 0) = ap (λ (z : Bool). cond z 1 0) same in
       record { same = ap (needed_before (Code i n)) h.same; dead = omega (arith, d, e, f, g) }
   by_kind (Mark v m) o l h =
       let d = h.dead in

@@ -26,15 +26,15 @@ use Rattle.pass_salvage.specs.declared.salvage_action.SalvageAction.TheVariants.
 use Rattle.pass_salvage.specs.SalvageAction.{or_fresh, has_entry, asks_for, salvage_action}
 use Rattle.pass_salvage.specs.Salvage.{with_number, numbered_at, entry_for, entries_for, above_after}
 use Rattle.pass_salvage.proofs.Chosen.{IsEntered, entered}
-use Rattle.pass_edits.proofs.Numbers.{IsUnlike, AreUnlike, all_first, all_second, not_unlike, HasCode}
-use Rattle.pass_edits.proofs.Others.{flat_unlike, Others, others_of}
-use Rattle.pass_edits.proofs.Under.{KindUnder, no_entry}
-use Rattle.pass_edits.proofs.Found.{last_two, not_is}
+use Rattle.dce_round.proofs.pass_edits.Numbers.{IsUnlike, AreUnlike, all_first, all_second, not_unlike, HasCode}
+use Rattle.dce_round.proofs.pass_edits.Others.{flat_unlike, Others, others_of}
+use Rattle.dce_round.proofs.pass_edits.Under.{KindUnder, no_entry}
+use Rattle.dce_round.proofs.pass_edits.Found.{last_two, not_is}
 use Rattle.dce_salvage.specs.declared.salvage_numbers.Copied.{Copied}
 use Rattle.dce_salvage.specs.SalvageNumbers.{phi_by_own, added_by_salvage}
 use Rattle.pass_salvage.specs.SalvageAction.{going_from}
 use Rattle.pass_salvage.proofs.Placed.{above_length}
-use Rattle.dce_salvage_proof.proofs.Copy.{Ready}
+use Rattle.dce_round.proofs.dce_salvage_proof.Copy.{Ready}
 use Rattle.dce_proof.proofs.Lines.{giver_stays, number_other, number_same, get_left}
 
 -- code that stays has it, above an index

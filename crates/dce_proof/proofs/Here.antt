@@ -25,17 +25,17 @@ use Rattle.pass_trait.specs.Rule.{StandsAt}
 use Rattle.pass_trait.specs.Causes.{is_origin, old_program, defines, Comes, begins, goes_on, IsFewer, IsRemoved, IsRemovedDefinition}
 use Rattle.pass_trait.specs.Causes.{IsKeptDefinition, IsAfter}
 use Rattle.pass_trait.proofs.NopDebug.{same_position}
-use Rattle.dce_rule.specs.Dead.{Places, Ends, is_dead, needed_at, paths_of}
-use Rattle.dce_rule.specs.Wrong.{begins_dead, silenced, taken_out, is_dead_at, IsWrongAt, made, on}
-use Rattle.dce_rule.proofs.Lists.{quiet, rest_at}
-use Rattle.dce_rule.proofs.Fewer.{fewer_of}
-use Rattle.dce_rule.proofs.Sound.{ids_taken}
-use Rattle.dce_rule.proofs.Rounds.{ends_one, blocks_self}
-use Rattle.dce_rule.proofs.Debug.{in_drop, quiet_defines, quiet_code}
-use Rattle.dce_analysis.specs.Judge.{AreJudged}
+use Rattle.dce_round.specs.dce_rule.Dead.{Places, Ends, is_dead, needed_at, paths_of}
+use Rattle.dce_round.specs.dce_rule.Wrong.{begins_dead, silenced, taken_out, is_dead_at, IsWrongAt, made, on}
+use Rattle.dce_round.proofs.dce_rule.Lists.{quiet, rest_at}
+use Rattle.dce_round.proofs.dce_rule.Fewer.{fewer_of}
+use Rattle.dce_round.proofs.dce_rule.Sound.{ids_taken}
+use Rattle.dce_round.proofs.dce_rule.Rounds.{ends_one, blocks_self}
+use Rattle.dce_round.proofs.dce_rule.Debug.{in_drop, quiet_defines, quiet_code}
+use Rattle.dce_round.specs.dce_analysis.Judge.{AreJudged}
 use Rattle.dce_salvage.specs.declared.salvage_numbers.Copied.{Copied}
 use Rattle.dce_salvage.specs.SalvageNumbers.{without_number, salvage_phi}
-use Rattle.dce_salvage_proof.specs.SalvageLaws.{begins_off, all_off, function_off}
+use Rattle.dce_round.specs.dce_salvage_proof.SalvageLaws.{begins_off, all_off, function_off}
 use Rattle.dce_proof.specs.SalvageLedger.{Line, ledger}
 use Rattle.dce_proof.specs.DebugRule.{HasLine}
 use Rattle.dce_proof.proofs.Lines.{bare_of, LineIs, as_it_was, numbered, by_entry, by_phi, LinesAre, no_lines, next_line, all_now}

@@ -10,15 +10,15 @@ use Rattle.mir_func.specs.Function.{Function}
 use Rattle.pass_trait.specs.declared.loss.Loss.{Loss}
 use Rattle.pass_trait.specs.Change.{change}
 use Rattle.pass_trait.specs.Debug.{KeepsItems}
-use Rattle.dce_rule.specs.Dead.{Places, Ends, is_dead, needed_at, without_dead, thinned_block}
-use Rattle.dce_rule.specs.Wrong.{taken_out}
-use Rattle.dce_rule.specs.RemovalDebugRule.{LosesAt, AreWrong}
-use Rattle.dce_analysis.specs.Judge.{verdicts, AreJudged}
+use Rattle.dce_round.specs.dce_rule.Dead.{Places, Ends, is_dead, needed_at, without_dead, thinned_block}
+use Rattle.dce_round.specs.dce_rule.Wrong.{taken_out}
+use Rattle.dce_round.specs.dce_rule.RemovalDebugRule.{LosesAt, AreWrong}
+use Rattle.dce_round.specs.dce_analysis.Judge.{verdicts, AreJudged}
 use Rattle.dce_salvage.specs.SalvageNumbers.{SoFar, salvage_at, salvage_down}
 use Rattle.pass_salvage.specs.SalvageAction.{going_from}
 use Rattle.dce_salvage.specs.SalvageBlocks.{BlocksSoFar, in_block, salvage_block, with_front, salvage_blocks}
-use Rattle.dce_salvage_proof.specs.SalvageLaws.{begins_off, all_off, function_off}
-use Rattle.dce_sweep.proofs.None.{some_true, some_dead, blocks_same, never_wrong, loses_none, right_false}
+use Rattle.dce_round.specs.dce_salvage_proof.SalvageLaws.{begins_off, all_off, function_off}
+use Rattle.dce_round.proofs.dce_sweep.None.{some_true, some_dead, blocks_same, never_wrong, loses_none, right_false}
 use Rattle.dce_proof.specs.DebugRule.{dead_rule}
 use Rattle.dce_proof.specs.DebugLaws.{IdleKeepsItems}
 use Rattle.dce_proof.proofs.Blocks.{verdicts_of}

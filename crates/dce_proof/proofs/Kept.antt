@@ -22,17 +22,17 @@ use Rattle.sem_mir.proofs.Reading.{found}
 use Rattle.pass_trait.specs.Change.{Change}
 use Rattle.pass_trait.specs.Rule.{StandsAt, item, first_operand}
 use Rattle.pass_trait.specs.Debug.{IsKillAt, Becomes, BecomeAll, over, next, BlocksBecome, none, stays as block_stays}
-use Rattle.dce_rule.specs.Dead.{Places, is_dead, needed_at}
-use Rattle.dce_rule.specs.Wrong.{begins_dead, silenced, silenced_left, is_dead_at, IsWrongAt}
-use Rattle.dce_rule.specs.RemovalDebugRule.{AreWrong}
-use Rattle.dce_rule.proofs.Lists.{quiet, taken}
-use Rattle.dce_analysis.specs.Judge.{AreJudged}
+use Rattle.dce_round.specs.dce_rule.Dead.{Places, is_dead, needed_at}
+use Rattle.dce_round.specs.dce_rule.Wrong.{begins_dead, silenced, silenced_left, is_dead_at, IsWrongAt}
+use Rattle.dce_round.specs.dce_rule.RemovalDebugRule.{AreWrong}
+use Rattle.dce_round.proofs.dce_rule.Lists.{quiet, taken}
+use Rattle.dce_round.specs.dce_analysis.Judge.{AreJudged}
 use Rattle.dce_salvage.specs.declared.salvage_numbers.Copied.{Copied}
 use Rattle.dce_salvage.specs.SalvageNumbers.{without_number, phi_by_own, salvage_phi}
-use Rattle.dce_salvage_proof.specs.SalvageLaws.{begins_off, all_off, function_off}
-use Rattle.dce_salvage_proof.proofs.Copy.{copy_of as copy_is}
-use Rattle.dce_sweep.proofs.Steps.{drop_next}
-use Rattle.dce_sweep.proofs.None.{dead_is_code}
+use Rattle.dce_round.specs.dce_salvage_proof.SalvageLaws.{begins_off, all_off, function_off}
+use Rattle.dce_round.proofs.dce_salvage_proof.Copy.{copy_of as copy_is}
+use Rattle.dce_round.proofs.dce_sweep.Steps.{drop_next}
+use Rattle.dce_round.proofs.dce_sweep.None.{dead_is_code}
 use Rattle.dce_proof.specs.SalvageLedger.{Line, line_of, ledger}
 use Rattle.dce_proof.specs.DebugRule.{number, phi, dead_rule}
 use Rattle.dce_proof.proofs.Lines.{LineIs, as_it_was, numbered, by_entry, by_phi, LinesAre, all_now}

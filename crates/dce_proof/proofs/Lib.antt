@@ -14,3 +14,5 @@ pub mod Entries
 pub mod Added
 pub mod Whole
 pub mod Idle
+pub use Rattle.dce_round.proofs.dce_rule as dce_rule
+pub use Rattle.dce_round.proofs.dce_sweep as dce_sweep

@@ -27,16 +27,16 @@ use Rattle.pass_salvage.specs.SalvageAction.{action_of_kind, action_at, action_f
 use Rattle.pass_salvage.specs.Salvage.{with_number, numbered_at, entry_for, entries_for, above_after}
 use Rattle.pass_salvage.proofs.Chosen.{IsEntered, entered}
 use Rattle.pass_salvage.proofs.Going.{removed_at}
-use Rattle.pass_edits.proofs.Found.{not_is}
-use Rattle.pass_edits.proofs.Entered.{entered_more, entry_added, none_there}
-use Rattle.dce_rule.specs.Dead.{Places, is_dead, needed_at}
-use Rattle.dce_analysis.specs.Judge.{verdicts}
+use Rattle.dce_round.proofs.pass_edits.Found.{not_is}
+use Rattle.dce_round.proofs.pass_edits.Entered.{entered_more, entry_added, none_there}
+use Rattle.dce_round.specs.dce_rule.Dead.{Places, is_dead, needed_at}
+use Rattle.dce_round.specs.dce_analysis.Judge.{verdicts}
 use Rattle.dce_salvage.specs.declared.salvage_numbers.Copied.{Copied}
 use Rattle.dce_salvage.specs.SalvageNumbers.{without_number, numbered_copy, salvage_phi, added_by_salvage, lost_if_own, lost_by_salvage, salvaged_from}
 use Rattle.dce_salvage.specs.SalvageNumbers.{SoFar, salvage_by, salvage_copy, copy_in, salvage_at, salvage_down}
 use Rattle.pass_salvage.specs.SalvageAction.{going_from}
 use Rattle.pass_salvage.proofs.Placed.{numbered_length, above_length}
-use Rattle.dce_salvage_proof.proofs.Copy.{split_at}
+use Rattle.dce_round.proofs.dce_salvage_proof.Copy.{split_at}
 use Rattle.dce_proof.specs.SalvageLedger.{Line, line_by, line_of, line_of_copy, lines_of, lines_down}
 use Rattle.rv64_instr.specs.Row.{row_of}
 use Rattle.rv64_instr.specs.LocationEffects.{is_call}

@@ -11,7 +11,7 @@ use Rattle.mir_func.specs.declared.item.ItemKind.TheVariants.{Code, Mark, Phi}
 use Rattle.mir_func.specs.declared.variable.MarkValue.TheVariants.{Nothing, Constant, At, Pair}
 use Rattle.mir_func.specs.Sound.{items_of}
 use Rattle.pass_trait.specs.Sizes.{greatest, numbers_of, numbers_in}
-use Rattle.pass_edits.proofs.Under.{KindUnder, AreUnder, BlocksUnder, EntryUnder}
+use Rattle.dce_round.proofs.pass_edits.Under.{KindUnder, AreUnder, BlocksUnder, EntryUnder}
 
 greatest_most : (m : ℕ) (ns : List ℕ) → All (λ (n : ℕ). n < m + 1) ns → greatest ns ≤ m
 greatest_most m [] h = omega arith

@@ -16,9 +16,9 @@ use Rattle.mir_func.specs.Graph.{Fetch, Here, EndOfBlock, Outside, Program, belo
 use Rattle.mir_func.specs.Graph.{end_of, front, fetch_in, from_block, RowEdge, KindEdge, FetchEdge, Edge, rest_in, rest_of}
 use Rattle.sem_mir.specs.Align.{is_code}
 use Rattle.sem_mir.specs.Live.{Defines, KindDefines}
-use Rattle.dce_rule.specs.Dead.{Places, Ends, is_dead, needed_before, needed_at, paths_of}
-use Rattle.dce_rule.specs.Wrong.{begins_dead, is_dead_at, IsWrongAt, made, on}
-use Rattle.dce_rule.proofs.Same.{debug_edge, debug_below}
+use Rattle.dce_round.specs.dce_rule.Dead.{Places, Ends, is_dead, needed_before, needed_at, paths_of}
+use Rattle.dce_round.specs.dce_rule.Wrong.{begins_dead, is_dead_at, IsWrongAt, made, on}
+use Rattle.dce_round.proofs.dce_rule.Same.{debug_edge, debug_below}
 use Rattle.dce_salvage.specs.declared.salvage_numbers.Copied.{Copied}
 use Rattle.dce_salvage.specs.SalvageNumbers.{without_number, numbered_copy, phi_by_own, salvage_phi}
 use Rattle.dce_proof.specs.SalvageLedger.{Line}

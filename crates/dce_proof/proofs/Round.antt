@@ -6,14 +6,14 @@ use Rattle.mir_func.specs.Sound.{IsSound}
 use Rattle.pass_trait.specs.declared.loss.Loss.{Loss}
 use Rattle.pass_trait.specs.Change.{change}
 use Rattle.pass_trait.specs.Sizes.{greatest_number, item_count, call_count, IsPhysical, KeepsSizes}
-use Rattle.pass_edits.proofs.Under.{BlocksUnder, EntryUnder}
-use Rattle.dce_rule.specs.Dead.{Ends}
-use Rattle.dce_rule.specs.Wrong.{taken_out}
-use Rattle.dce_rule.proofs.Fewer.{sizes_taken}
-use Rattle.dce_rule.proofs.Rounds.{ends_one}
+use Rattle.dce_round.proofs.pass_edits.Under.{BlocksUnder, EntryUnder}
+use Rattle.dce_round.specs.dce_rule.Dead.{Ends}
+use Rattle.dce_round.specs.dce_rule.Wrong.{taken_out}
+use Rattle.dce_round.proofs.dce_rule.Fewer.{sizes_taken}
+use Rattle.dce_round.proofs.dce_rule.Rounds.{ends_one}
 use Rattle.dce_salvage.specs.SalvageBlocks.{BlocksSoFar, salvage_blocks}
-use Rattle.dce_salvage_proof.specs.SalvageLaws.{begins_off, all_off, function_off, KeepsOff}
-use Rattle.dce_salvage_proof.proofs.Chain.{all_went, salvage_numbers}
+use Rattle.dce_round.specs.dce_salvage_proof.SalvageLaws.{begins_off, all_off, function_off, KeepsOff}
+use Rattle.dce_round.proofs.dce_salvage_proof.Chain.{all_went, salvage_numbers}
 use Rattle.dce_round.specs.Round.{IsDeadRound}
 use Rattle.dce_round.proofs.Follows.{round_code}
 use Rattle.dce_proof.specs.SizeLaws.{IsNoLarger, RoundSizes}

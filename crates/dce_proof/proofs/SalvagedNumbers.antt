@@ -15,7 +15,7 @@ use Rattle.pass_salvage.specs.declared.salvage_action.SalvageAction.{SalvageActi
 use Rattle.pass_salvage.specs.declared.salvage_action.SalvageAction.TheVariants.{HasEntry, GetsEntry, GetsPhi}
 use Rattle.pass_salvage.specs.SalvageAction.{salvage_action}
 use Rattle.pass_salvage.specs.Salvage.{with_number, numbered_at, above_after}
-use Rattle.pass_edits.proofs.Numbers.{all_first, all_second}
+use Rattle.dce_round.proofs.pass_edits.Numbers.{all_first, all_second}
 use Rattle.rv64_instr.proofs.Moves.{moves_by}
 use Rattle.dce_salvage.specs.declared.salvage_numbers.Copied.{Copied}
 use Rattle.dce_salvage.specs.SalvageNumbers.{without_number, numbered_copy, phi_by_own, added_by_salvage, salvaged_from}
@@ -23,9 +23,9 @@ use Rattle.dce_salvage.specs.SalvageNumbers.{salvaged_items, SoFar, salvage_copy
 use Rattle.pass_salvage.specs.SalvageAction.{going_from}
 use Rattle.dce_salvage.specs.SalvageBlocks.{BlocksSoFar, in_block, salvage_block, salvage_next, salvage_blocks}
 use Rattle.dce_salvage.proofs.Down.{off_grows, fresh_least}
-use Rattle.dce_rule.specs.Dead.{Ends}
-use Rattle.dce_analysis.specs.Judge.{verdicts}
-use Rattle.dce_salvage_proof.proofs.Copy.{IsCopyOf, copy_of, split_at}
+use Rattle.dce_round.specs.dce_rule.Dead.{Ends}
+use Rattle.dce_round.specs.dce_analysis.Judge.{verdicts}
+use Rattle.dce_round.proofs.dce_salvage_proof.Copy.{IsCopyOf, copy_of, split_at}
 use Rattle.dce_proof.proofs.Counts.{below, below_all, dead_in}
 
 -- ---- each fresh number and each phi is for a copy that goes

@@ -26,15 +26,15 @@ use Rattle.sem_simulation.proofs.Laid.{laid_out}
 use Rattle.pass_trait.specs.declared.loss.Reason.TheVariants.{Removed, WrongPlace}
 use Rattle.pass_trait.specs.declared.loss.Loss.{Loss}
 use Rattle.pass_trait.specs.Rule.{IsCopy, StandsAt, item, number_lost, mark_lost}
-use Rattle.dce_rule.specs.Dead.{Places, Ends, is_dead, needed_at}
-use Rattle.dce_rule.specs.Wrong.{begins_dead, is_dead_at, IsWrongAt}
-use Rattle.dce_rule.specs.RemovalDebugRule.{LosesOf, LosesAt}
-use Rattle.dce_rule.proofs.Lists.{rest_at}
-use Rattle.dce_analysis.specs.Judge.{AreJudged}
+use Rattle.dce_round.specs.dce_rule.Dead.{Places, Ends, is_dead, needed_at}
+use Rattle.dce_round.specs.dce_rule.Wrong.{begins_dead, is_dead_at, IsWrongAt}
+use Rattle.dce_round.specs.dce_rule.RemovalDebugRule.{LosesOf, LosesAt}
+use Rattle.dce_round.proofs.dce_rule.Lists.{rest_at}
+use Rattle.dce_round.specs.dce_analysis.Judge.{AreJudged}
 use Rattle.dce_salvage.specs.declared.salvage_numbers.Copied.{Copied}
 use Rattle.dce_salvage.specs.SalvageNumbers.{without_number, numbered_copy, phi_by_own, salvage_phi}
-use Rattle.dce_salvage_proof.specs.SalvageLaws.{begins_off, all_off, function_off}
-use Rattle.dce_salvage_proof.proofs.Copy.{IsCopyOf, copy_of as copy_is, split_at}
+use Rattle.dce_round.specs.dce_salvage_proof.SalvageLaws.{begins_off, all_off, function_off}
+use Rattle.dce_round.proofs.dce_salvage_proof.Copy.{IsCopyOf, copy_of as copy_is, split_at}
 use Rattle.dce_proof.specs.SalvageLedger.{Line, ledger}
 use Rattle.dce_proof.specs.DebugRule.{HasLine, Loses, number, copy, mark, phi, dead_rule}
 use Rattle.dce_proof.proofs.Lines.{bare_of, LineIs, as_it_was, numbered, by_entry, by_phi, Own}

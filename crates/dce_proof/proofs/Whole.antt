@@ -22,16 +22,16 @@ use Rattle.pass_trait.specs.Change.{change}
 use Rattle.pass_trait.specs.Order.{IsInOrder}
 use Rattle.pass_trait.specs.Rule.{StandsAt, number_lost}
 use Rattle.pass_trait.specs.Debug.{IsLoss, IsFor, IsGivenOrLost, KeepsItems}
-use Rattle.dce_rule.specs.Dead.{Places, Ends, is_dead, needed_at}
-use Rattle.dce_rule.specs.Wrong.{begins_dead, silenced, silenced_left, taken_out, is_dead_at}
-use Rattle.dce_rule.specs.RemovalDebugRule.{LosesOf, LosesAt, AreWrong}
-use Rattle.dce_rule.proofs.Lists.{quiet, taken}
-use Rattle.dce_rule.proofs.Rounds.{ends_one}
-use Rattle.dce_rule.proofs.Sound.{Left, none as left_none, kept as left_kept, gone as left_gone, left_items, quiet_number}
-use Rattle.dce_analysis.specs.Judge.{AreJudged}
-use Rattle.dce_salvage_proof.specs.SalvageLaws.{begins_off, all_off, function_off, KeepsOff}
-use Rattle.dce_salvage_proof.proofs.Chain.{salvage_numbers}
-use Rattle.pass_edits.proofs.Numbers.{IsUnlike, AreUnlike, code_is_number, number_not, number_in, HasCode}
+use Rattle.dce_round.specs.dce_rule.Dead.{Places, Ends, is_dead, needed_at}
+use Rattle.dce_round.specs.dce_rule.Wrong.{begins_dead, silenced, silenced_left, taken_out, is_dead_at}
+use Rattle.dce_round.specs.dce_rule.RemovalDebugRule.{LosesOf, LosesAt, AreWrong}
+use Rattle.dce_round.proofs.dce_rule.Lists.{quiet, taken}
+use Rattle.dce_round.proofs.dce_rule.Rounds.{ends_one}
+use Rattle.dce_round.proofs.dce_rule.Sound.{Left, none as left_none, kept as left_kept, gone as left_gone, left_items, quiet_number}
+use Rattle.dce_round.specs.dce_analysis.Judge.{AreJudged}
+use Rattle.dce_round.specs.dce_salvage_proof.SalvageLaws.{begins_off, all_off, function_off, KeepsOff}
+use Rattle.dce_round.proofs.dce_salvage_proof.Chain.{salvage_numbers}
+use Rattle.dce_round.proofs.pass_edits.Numbers.{IsUnlike, AreUnlike, code_is_number, number_not, number_in, HasCode}
 use Rattle.dce_proof.specs.DebugRule.{dead_rule}
 use Rattle.dce_proof.specs.DebugLaws.{RoundKeepsItems}
 use Rattle.dce_proof.proofs.Blocks.{lost_there}

@@ -6,7 +6,7 @@ use Rattle.mir_func.specs.Sound.{IsSound}
 use Rattle.pass_trait.specs.declared.loss.Loss.{Loss}
 use Rattle.pass_trait.specs.Change.{change}
 use Rattle.pass_trait.specs.Debug.{KeepsItems}
-use Rattle.dce_rule.specs.Dead.{IsRound}
+use Rattle.dce_round.specs.dce_rule.Dead.{IsRound}
 use Rattle.dce_round.specs.Round.{IsDeadRound}
 use Rattle.dce_proof.specs.DebugRule.{dead_rule}
 

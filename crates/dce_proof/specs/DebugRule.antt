@@ -17,9 +17,9 @@ use Rattle.pass_trait.specs.declared.loss.Reason.TheVariants.{Removed, WrongPlac
 use Rattle.pass_trait.specs.declared.loss.Loss.{Loss}
 use Rattle.pass_trait.specs.Change.{Change}
 use Rattle.pass_trait.specs.Rule.{Rule, IsCopy, StandsAt, number_lost, mark_lost, item}
-use Rattle.dce_rule.specs.Wrong.{is_dead_at, IsWrongAt}
-use Rattle.dce_analysis.specs.Judge.{AreJudged}
-use Rattle.dce_salvage_proof.specs.SalvageLaws.{all_off}
+use Rattle.dce_round.specs.dce_rule.Wrong.{is_dead_at, IsWrongAt}
+use Rattle.dce_round.specs.dce_analysis.Judge.{AreJudged}
+use Rattle.dce_round.specs.dce_salvage_proof.SalvageLaws.{all_off}
 use Rattle.dce_proof.specs.SalvageLedger.{Line, ledger}
 
 -- which items of the old function are dead, and the ledger's line of the item at a position

@@ -12,7 +12,7 @@ use Rattle.dce_salvage.specs.declared.salvage_numbers.Copied.{Copied}
 use Rattle.dce_salvage.specs.SalvageNumbers.{without_number, numbered_copy, added_by_salvage, SoFar, salvage_at}
 use Rattle.pass_salvage.specs.SalvageAction.{going_from}
 use Rattle.dce_salvage.specs.SalvageBlocks.{BlocksSoFar, in_block, salvage_blocks}
-use Rattle.dce_salvage_proof.specs.SalvageLaws.{begins_off}
+use Rattle.dce_round.specs.dce_salvage_proof.SalvageLaws.{begins_off}
 
 -- the items that an item becomes, and the register of the DBG_PHI before it, if one was added
 pub record Line : Type 0 where

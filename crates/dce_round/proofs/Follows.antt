@@ -7,15 +7,15 @@ use Rattle.mir_func.specs.Strip.{stripped}
 use Rattle.pass_trait.specs.declared.loss.Loss.{Loss}
 use Rattle.pass_trait.specs.Change.{change}
 use Rattle.pass_trait.specs.Sizes.{code_count}
-use Rattle.dce_rule.specs.Dead.{IsRound}
-use Rattle.dce_rule.specs.Wrong.{taken_out, IsClosed}
-use Rattle.dce_rule.specs.CodeLaws.{Covers}
-use Rattle.pass_edits.specs.WeakSimulation.{PreservesWeakSimulation}
-use Rattle.dce_rule.proofs.Live.{live_closed}
-use Rattle.dce_rule.proofs.Sound.{sound_taken}
-use Rattle.dce_rule.proofs.Follows.{dead_follows}
-use Rattle.dce_rule.proofs.Stripped.{round_stripped}
-use Rattle.pass_edits.proofs.Loose.{then}
+use Rattle.dce_salvage_proof.specs.dce_rule.Dead.{IsRound}
+use Rattle.dce_salvage_proof.specs.dce_rule.Wrong.{taken_out, IsClosed}
+use Rattle.dce_salvage_proof.specs.dce_rule.CodeLaws.{Covers}
+use Rattle.dce_salvage_proof.specs.pass_edits.WeakSimulation.{PreservesWeakSimulation}
+use Rattle.dce_salvage_proof.proofs.dce_rule.Live.{live_closed}
+use Rattle.dce_salvage_proof.proofs.dce_rule.Sound.{sound_taken}
+use Rattle.dce_salvage_proof.proofs.dce_rule.Follows.{dead_follows}
+use Rattle.dce_salvage_proof.proofs.dce_rule.Stripped.{round_stripped}
+use Rattle.dce_salvage_proof.proofs.pass_edits.Loose.{then}
 use Rattle.dce_salvage_proof.specs.SalvageLaws.{all_off, function_off, KeepsOff}
 use Rattle.dce_salvage_proof.proofs.Chain.{salvage_numbers}
 use Rattle.dce_round.specs.Round.{IsDeadRound}

@@ -9,9 +9,9 @@ use Rattle.mir_func.specs.Function.{Function}
 use Rattle.mir_func.specs.Graph.{program_of, block_start, rest_in}
 use Rattle.mir_func.specs.Sound.{ids_of}
 use Rattle.sem_mir.specs.Live.{Live, used, later}
-use Rattle.pass_liveness.specs.Liveness.{LiveSets, AreLiveSets}
-use Rattle.dce_rule.specs.Same.{SameItems, none, SameBlocks, no_blocks, one_more}
-use Rattle.dce_rule.proofs.Same.{Beside, blocks_back, from_same, live_same}
+use Rattle.dce_sweep.specs.pass_liveness.Liveness.{LiveSets, AreLiveSets}
+use Rattle.dce_salvage_proof.specs.dce_rule.Same.{SameItems, none, SameBlocks, no_blocks, one_more}
+use Rattle.dce_salvage_proof.proofs.dce_rule.Same.{Beside, blocks_back, from_same, live_same}
 
 -- whatever pairs resolve to, and whether or not marks see x2
 either : (see see' : Bool) (to to' : OperandPair → Option OperandPair) (bs : List Block) (x : Place) {p : Pos} →

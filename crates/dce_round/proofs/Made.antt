@@ -7,10 +7,10 @@ use Rattle.mir_func.specs.Function.{Function}
 use Rattle.mir_func.specs.Sound.{IsSound}
 use Rattle.pass_trait.specs.declared.loss.Loss.{Loss}
 use Rattle.pass_trait.specs.Order.{IsInOrder}
-use Rattle.dce_rule.specs.Dead.{Ends, IsRound}
-use Rattle.dce_rule.proofs.Rounds.{ends_one}
-use Rattle.dce_analysis.specs.Judge.{AreJudged}
-use Rattle.dce_salvage.specs.SalvageBlocks.{BlocksSoFar, salvage_blocks}
+use Rattle.dce_salvage_proof.specs.dce_rule.Dead.{Ends, IsRound}
+use Rattle.dce_salvage_proof.proofs.dce_rule.Rounds.{ends_one}
+use Rattle.dce_sweep.specs.dce_analysis.Judge.{AreJudged}
+use Rattle.dce_salvage_proof.specs.dce_salvage.SalvageBlocks.{BlocksSoFar, salvage_blocks}
 use Rattle.dce_sweep.specs.Round.{has_dead, IsTakenOut}
 use Rattle.dce_sweep.proofs.None.{settled}
 use Rattle.dce_salvage_proof.specs.SalvageLaws.{begins_off, all_off, function_off, KeepsOff}

@@ -14,8 +14,8 @@ use Rattle.mir_func.specs.Sound.{items_of}
 use Rattle.mir_func.specs.Strip.{stripped_items, stripped_blocks}
 use Rattle.sem_mir.specs.Align.{is_code}
 use Rattle.pass_trait.specs.Rule.{item}
-use Rattle.dce_rule.specs.Dead.{Places, Ends, is_dead_row, needed_before, needed_at}
-use Rattle.dce_analysis.specs.Judge.{verdicts}
+use Rattle.dce_salvage_proof.specs.dce_rule.Dead.{Places, Ends, is_dead_code, needed_before, needed_at}
+use Rattle.dce_sweep.specs.dce_analysis.Judge.{verdicts}
 use Rattle.dce_sweep.specs.Round.{has_dead}
 
 -- ---- where dead code is
@@ -33,7 +33,7 @@ as_stripped (x ∷ xs) needed = by_kind x.kind x.origin x.loc (as_stripped xs ne
   by_kind : (k : ItemKind) (o : Origin) (l : Loc) → AsStripped xs needed → AsStripped (item k o l ∷ xs) needed
   by_kind (Code i n) o l h = record {
     same = ap (needed_before (Code i n)) h.same;
-    dead = (λ j. is_dead_row (row_of i) (h.same j) || h.dead j);
+    dead = (λ j. is_dead_code i (h.same j) || h.dead j);
   }
   by_kind (Mark v m) o l h = record { same = h.same; dead = h.dead }
   by_kind (Phi p n) o l h = record { same = h.same; dead = h.dead }

@@ -7,8 +7,8 @@ use Rattle.mir_func.specs.Strip.{stripped}
 use Rattle.pass_trait.specs.declared.loss.Loss.{Loss}
 use Rattle.pass_trait.specs.Change.{change}
 use Rattle.pass_trait.specs.Sizes.{code_count}
-use Rattle.dce_rule.specs.Dead.{IsRound}
-use Rattle.pass_edits.specs.WeakSimulation.{PreservesWeakSimulation}
+use Rattle.dce_salvage_proof.specs.dce_rule.Dead.{IsRound}
+use Rattle.dce_salvage_proof.specs.pass_edits.WeakSimulation.{PreservesWeakSimulation}
 use Rattle.dce_round.specs.Round.{IsDeadRound}
 
 -- the function after it is sound, and the round preserves the weak simulation

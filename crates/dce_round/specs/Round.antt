@@ -4,8 +4,8 @@ use Rattle.mir_func.specs.declared.debug_substitution.DebugSubstitution.{DebugSu
 use Rattle.mir_func.specs.Function.{Function}
 use Rattle.pass_trait.specs.declared.loss.Loss.{Loss}
 use Rattle.pass_trait.specs.Order.{IsInOrder}
-use Rattle.dce_rule.specs.Dead.{IsRound}
-use Rattle.dce_analysis.specs.Judge.{AreJudged}
+use Rattle.dce_salvage_proof.specs.dce_rule.Dead.{IsRound}
+use Rattle.dce_sweep.specs.dce_analysis.Judge.{AreJudged}
 use Rattle.dce_sweep.specs.Round.{IsTakenOut}
 use Rattle.dce_salvage_proof.specs.SalvageLaws.{all_off, function_off}
 

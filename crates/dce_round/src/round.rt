@@ -7,15 +7,15 @@ ghost use Rattle.dce_salvage_proof.specs.SalvageLaws.{all_off, function_off};
 ghost use Rattle.dce_round.specs.Round.{IsRoundWith};
 
 use base_list::List;
-use dce_analysis::judge::judge;
-use dce_salvage::salvage_blocks::{has_copies, salvage_blocks};
+use dce_salvage_proof::dce_salvage_crate::salvage_blocks::{has_copies, salvage_blocks};
+use dce_salvage_proof::pass_salvage_crate::fresh::fresh_number;
+use dce_sweep::dce_analysis_crate::judge::judge;
+use dce_sweep::pass_liveness_crate::live::Live;
 use dce_sweep::round::{has_dead, sweep_dead};
 use mir_func::block::{Blocks, copy_blocks};
 use mir_func::func::Func;
 use mir_substitution::substitutions::Substitutions;
-use pass_liveness::live::Live;
 use pass_losses::told::put_in_order;
-use pass_salvage::fresh::fresh_number;
 use pass_trait::loss::{Loss, Losses};
 use std::alloc::{AllocError, Global};
 

@@ -1,11 +1,12 @@
 -- What followed a source loosely follows it loosely without its dead code.
 use Rattle.std.proofs.Common.{◌≡◌, inl, inr, ℕ, zero, suc, ◌+◌, ◌*◌, List, [], ◌∷◌, map, drop, All, Contains, Option, Some, None, Bool, true, false}
-use Rattle.std.proofs.Common.{cond, length, refl, sym, ap, ◌∙◌, subst, arith}
+use Rattle.std.proofs.Common.{cond, not, ◌&&◌, length, refl, sym, ap, ◌∙◌, subst, arith}
 use Rattle.std.proofs.lemmas.Bool.{cases_eq}
 use Rattle.std.proofs.lemmas.List.{length-map}
 use Rattle.std.proofs.lemmas.List.Elements.{All-cons, All-nil, All-contains, All-head, All-tail, All-map, All-weaker}
 use Rattle.std.proofs.lemmas.Option.{get_or_from_slice_get}
 use Rattle.rv64_instr.specs.declared.place.Place.{Place}
+use Rattle.rv64_instr.specs.Instruction.{is_volatile_load}
 use Rattle.rv64_instr.specs.Row.{Row, Fixes, LoadsSlot, StoresSlot, Branches, Jumps, Returns, row_of}
 use Rattle.mir_func.specs.declared.debug_substitution.OperandPair.{OperandPair}
 use Rattle.mir_func.specs.declared.position.Pos.{Pos}
@@ -28,7 +29,7 @@ use Rattle.sem_mir.specs.State.{State}
 use Rattle.sem_mir.specs.Step.{Faulted, moved, do_fetch}
 use Rattle.sem_mir.specs.Align.{is_jump, is_jump_row, waits_at, moves_on, Count, ByItems, ByEnds, sync_point_at, Arrives, here, onward, AnyOrigin, RunsMatch}
 use Rattle.sem_mir.specs.Align.{After, since_of}
-use Rattle.sem_mir.specs.Follow.{MayAdd, KindFits, MarkFits, InOrder, next_rank, Among, none}
+use Rattle.sem_mir.specs.Follow.{MayAdd, KindFits, StaysVolatile, MarkFits, InOrder, next_rank, Among, none}
 use Rattle.sem_mir.specs.InitialState.{first_of, IsInitialState}
 use Rattle.sem_mir.specs.Follow.{same, left, OnRow, GoesTo, SameEnd, ItemHasClass}
 use Rattle.sem_mir.specs.Follow.{IsEnd, KindsEndAlike, EndIsKept, EndComesFrom, IsRead}
@@ -41,8 +42,8 @@ use Rattle.sem_simulation.proofs.Ahead.{idles_ahead, bare_return}
 use Rattle.sem_simulation.proofs.Order.{rank_next}
 use Rattle.sem_simulation.proofs.Written.{HasPhysicalResults, has_physical_results}
 use Rattle.sem_simulation.proofs.Laid.{laid_out}
-use Rattle.sem_agreement.proofs.Held.{held_itself}
-use Rattle.sem_agreement.proofs.Told.{tells_itself}
+use Rattle.pass_edits.proofs.sem_agreement.Held.{held_itself}
+use Rattle.pass_edits.proofs.sem_agreement.Told.{tells_itself}
 use Rattle.pass_trait.specs.Change.{change}
 use Rattle.pass_trait.specs.Simulation.{Source}
 use Rattle.pass_trait.proofs.NopFollows.{order_less}
@@ -115,6 +116,9 @@ module _ (wrong : Pos → Places) (ends : Ends) where
 fits_quiet : (srcp : Program) (w : Places) (k : ItemKind) (s : ℕ) (o : Origin) → KindFits srcp k s o → KindFits srcp (silenced w k) s o
 fits_quiet srcp w k s o h = quiet_is (λ z. KindFits srcp z s o) w k h (λ v r e. tt) (λ x n e. tt)
 
+volatile_quiet : (srcp : Program) (w : Places) (k : ItemKind) (o : Origin) → StaysVolatile srcp k o → StaysVolatile srcp (silenced w k) o
+volatile_quiet srcp w k o h = quiet_is (λ z. StaysVolatile srcp z o) w k h (λ v r e. tt) (λ x n e. tt)
+
 marks_quiet : (w : Places) (k : ItemKind) (o : Origin) → MarkFits k o → MarkFits (silenced w k) o
 marks_quiet w k o h = quiet_is (λ z. MarkFits z o) w k h (λ v r e. tt) (λ x n e. tt)
 
@@ -141,7 +145,7 @@ end_quiet i w k h = quiet_is (KindsEndAlike i) w k h (λ v r e. no_mark i v r (s
 
 going_stays : (k : ItemKind) (n : ℕ) (needed : Places) → OnRow (GoesTo n) k → is_dead k needed ≡ false
 going_stays (Code i m) n needed h = by_row (row_of i) h where
-  by_row : (r : Row) → GoesTo n r → is_dead_row r needed ≡ false
+  by_row : (r : Row) → GoesTo n r → (is_dead_row r needed && not (is_volatile_load i)) ≡ false
   by_row (Branches op a b t) h = refl
   by_row (Jumps t) h = refl
   by_row _ h = absurd h
@@ -150,7 +154,7 @@ going_stays (Phi p m) n needed h = absurd h
 
 end_stays : (k l : ItemKind) (needed : Places) → KindsEndAlike k l → is_dead l needed ≡ false
 end_stays (Code i n) (Code j m) needed h = by_rows (row_of i) (row_of j) h where
-  by_rows : (r s : Row) → SameEnd r s → is_dead_row s needed ≡ false
+  by_rows : (r s : Row) → SameEnd r s → (is_dead_row s needed && not (is_volatile_load j)) ≡ false
   by_rows (Branches op a b t) (Branches op' a' b' t') h = refl
   by_rows (Jumps t) (Jumps t') h = refl
   by_rows (Returns v) (Returns w) h = refl
@@ -337,6 +341,8 @@ module _ (f : Function) (subs : List DebugSubstitution) (sound : IsSound f) (for
       order = order_new;
       items = each_left wrong ends (λ b i. KindFits srcp i.kind b.source_end i.origin) (λ b i. KindFits srcp i.kind b.source_end i.origin)
           (λ b w x h. fits_quiet srcp w x.kind b.source_end x.origin h) f.blocks shape.items;
+      volatile = each_left wrong ends (λ b i. StaysVolatile srcp i.kind i.origin) (λ b i. StaysVolatile srcp i.kind i.origin)
+          (λ b w x h. volatile_quiet srcp w x.kind x.origin h) f.blocks shape.volatile;
       marks = each_left wrong ends (λ b i. MarkFits i.kind i.origin) (λ b i. MarkFits i.kind i.origin)
           (λ b w x h. marks_quiet w x.kind x.origin h) f.blocks shape.marks;
     }

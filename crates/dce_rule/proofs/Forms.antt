@@ -12,6 +12,7 @@ use Rattle.rv64_instr.specs.declared.op.Op.TheVariants.{PseudoTail, PseudoTailIn
 use Rattle.rv64_instr.specs.declared.op.ImmediateOp.TheVariants.{Addi}
 use Rattle.rv64_instr.specs.declared.operand.Operand.{Operand}
 use Rattle.rv64_instr.specs.declared.operand.Operand.TheVariants.{Def, Use, ImplicitDef, ImplicitUse, Imm, Slot, Object, Part, Block, Symbol, Mask, Outgoing}
+use Rattle.rv64_instr.specs.declared.operand.Operand.TheVariants.{GlobalRegisters}
 use Rattle.rv64_instr.specs.declared.symbol.Half.TheVariants.{Upper, Lower}
 use Rattle.rv64_instr.specs.declared.place.Place.{Place}
 use Rattle.rv64_instr.specs.declared.place.Place.TheVariants.{Register}
@@ -20,14 +21,14 @@ use Rattle.rv64_instr.specs.Arithmetic.{word}
 use Rattle.rv64_instr.specs.Form.{is_within, has_12_bits, is_immediate, moves_slot, is_implicit, is_clobbered}
 use Rattle.rv64_instr.specs.Form.{is_argument, is_last_argument, is_call_register, is_result, has_form, is_addi, is_held_tail_use, is_held_tail_register}
 use Rattle.rv64_instr.specs.Row.{Row, Calls, row_by, row_of, immediate_row, object_row}
-use Rattle.rv64_instr.specs.Row.{move_row, CallSite, implicit_uses, outgoing_words, held_call, held_tail, held_gone, Held}
+use Rattle.rv64_instr.specs.Row.{move_row, CallSite, implicit_uses, held_tail, held_gone}
 use Rattle.rv64_instr.specs.DefsAndUses.{sets, caller_saved}
 use Rattle.rv64_instr.specs.LocationEffects.{is_pure, is_call, defines_of}
-use Rattle.rv64_instr.proofs.Tails.{held_callee, last_arguments, held_tail_uses}
+use Rattle.rv64_instr.proofs.Tails.{last_arguments, held_tail_uses}
 use Rattle.mir_func.specs.Sound.{IsNotPointer}
 use Rattle.sem_mir.specs.Step.{defined}
 use Rattle.sem_mir.proofs.Parts.{row_defines}
-use Rattle.sem_agreement.specs.Agreement.{GenDefs, NumbersHeld}
+use Rattle.pass_edits.specs.sem_agreement.Agreement.{GenDefs, NumbersHeld}
 
 -- ---- operands that define nothing
 
@@ -43,6 +44,8 @@ none_result : (os : List Operand) → list_all is_result os ≡ true → (o : �
 none_result [] h o = refl
 none_result (ImplicitUse r ∷ os) h zero = refl
 none_result (ImplicitUse r ∷ os) h (suc o) = none_result os (and_parts (is_result (ImplicitUse r)) (list_all is_result os) h).1 o
+none_result (GlobalRegisters ∷ os) h zero = refl
+none_result (GlobalRegisters ∷ os) h (suc o) = none_result os h o
 none_result (_ ∷ os) h o = cc
 
 none_argument : (os : List Operand) → list_all is_argument os ≡ true → (o : ℕ) → defined false (slice_get os o) ≡ None
@@ -50,15 +53,19 @@ none_argument [] h o = refl
 none_argument (ImplicitDef r ∷ os) h zero = refl
 none_argument (ImplicitUse r ∷ os) h zero = refl
 none_argument (Outgoing n ∷ os) h zero = refl
+none_argument (GlobalRegisters ∷ os) h zero = refl
 none_argument (ImplicitDef r ∷ os) h (suc o) = none_argument os (and_parts (is_argument (ImplicitDef r)) (list_all is_argument os) h).1 o
 none_argument (ImplicitUse r ∷ os) h (suc o) = none_argument os (and_parts (is_argument (ImplicitUse r)) (list_all is_argument os) h).1 o
 none_argument (Outgoing n ∷ os) h (suc o) = none_argument os (and_parts (is_argument (Outgoing n)) (list_all is_argument os) h).1 o
+none_argument (GlobalRegisters ∷ os) h (suc o) = none_argument os h o
 none_argument (_ ∷ os) h o = cc
 
 none_tail : (os : List Operand) → list_all is_held_tail_use os ≡ true → (o : ℕ) → defined false (slice_get os o) ≡ None
 none_tail [] h o = refl
 none_tail (ImplicitUse r ∷ os) h zero = refl
 none_tail (ImplicitUse r ∷ os) h (suc o) = none_tail os (and_parts (is_held_tail_use (ImplicitUse r)) (list_all is_held_tail_use os) h).1 o
+none_tail (GlobalRegisters ∷ os) h zero = refl
+none_tail (GlobalRegisters ∷ os) h (suc o) = none_tail os h o
 none_tail (_ ∷ os) h o = cc
 
 abbrev NoneDefined : List Operand → Type 0
@@ -88,10 +95,6 @@ move_sets rd zero = (refl, refl)
 move_sets rd (suc rs) = (refl, refl)
 
 -- a call by the first of these registers
-held_call_site : (xs outgoing : List ℕ) (m : ℕ) (ys : List ℕ) → xs ≡ m ∷ ys → (site : CallSite) × (held_call xs outgoing ≡ Calls site)
-held_call_site [] outgoing m ys e = cc
-held_call_site (x ∷ xs) outgoing m ys e = (record { callee = Held x; args = xs; outgoing = outgoing }, refl)
-
 held_tail_sets : (xs : List ℕ) → (is_call (held_tail xs) ≡ false) × (sets (held_tail xs) ≡ [])
 held_tail_sets [] = (refl, refl)
 held_tail_sets (x ∷ xs) = (refl, refl)
@@ -152,12 +155,7 @@ sets_by_form Copy (Def rd ∷ Use a ∷ rest) e =
 sets_by_form PseudoBr (Block n ∷ rest) e = no_register (past (Block n) rest refl (none_implicit rest e)) refl refl
 sets_by_form PseudoCall (Symbol name ∷ Mask ∷ rest) e = call _ (Symbol name) rest refl refl e refl
 sets_by_form PseudoRet rest e = no_register (none_result rest e) refl refl
-sets_by_form PseudoCallIndirect (ImplicitUse r ∷ Mask ∷ rest) e =
-    let h = and_parts (is_call_register r) (list_all is_argument rest) e in
-    let uses : implicit_uses (ImplicitUse r ∷ Mask ∷ rest) ≡ r ∷ implicit_uses rest =
-    ap (λ (b : Bool). cond b (implicit_uses rest) (r ∷ implicit_uses rest)) (ne_eqb r 2 (held_callee r h.0).0) in
-    let s = held_call_site (implicit_uses (ImplicitUse r ∷ Mask ∷ rest)) (outgoing_words (ImplicitUse r ∷ Mask ∷ rest)) r (implicit_uses rest) uses in
-    call s.0 (ImplicitUse r) rest refl refl h.1 s.1
+sets_by_form PseudoCallIndirect (Use r ∷ Mask ∷ rest) e = call _ (Use r) rest refl refl e refl
 sets_by_form PseudoTail (Symbol name ∷ rest) e = no_register (past (Symbol name) rest refl (none_tail rest (held_tail_uses rest e))) refl refl
 sets_by_form PseudoTailIndirect (ImplicitUse r ∷ rest) e =
     let h = and_parts (is_held_tail_register r) (list_all is_held_tail_use rest) e in

@@ -19,7 +19,7 @@ use Rattle.mir_func.specs.Successors.{pos_in, ComesDown}
 use Rattle.sem_mir.specs.Live.{Uses, KindUses, Defines, KindDefines, Live, used, later}
 use Rattle.sem_simulation.specs.MatchStates.{Laid}
 use Rattle.sem_simulation.proofs.Laid.{laid_out}
-use Rattle.dce_rule.specs.Dead.{Places, Ends, is_dead_row, needed_before, needed_at, paths_of, LiveAtEnd}
+use Rattle.dce_rule.specs.Dead.{Places, Ends, is_dead_code, needed_before, needed_at, paths_of, LiveAtEnd}
 use Rattle.dce_rule.specs.Wrong.{IsClosed}
 use Rattle.dce_rule.proofs.Unneeded.{dead_sets, ends_at, passes_on}
 
@@ -54,8 +54,8 @@ module _ (f : Function) (wells : All (λ (b : Block). EndsWell b.items) f.blocks
     -- what is needed before an item is used by it, or needed behind it and not defined by it
     before : (k : ItemKind) (needed : Places) → needed_before k needed x ≡ true →
         ((p : Pos) (i : Item) → i.kind ≡ k → fp.fetch p ≡ Here i → Live fp x p) ⊎ ((needed x ≡ true) × (KindDefines k x → ⊥))
-    before (Code c n) needed e = by_dead (is_dead_row (row_of c) needed) refl e where
-      by_dead : (z : Bool) → is_dead_row (row_of c) needed ≡ z →
+    before (Code c n) needed e = by_dead (is_dead_code c needed) refl e where
+      by_dead : (z : Bool) → is_dead_code c needed ≡ z →
           cond z (needed x) (uses_of c x || (needed x && not (defines_of (row_of c) x))) ≡ true →
           ((p : Pos) (i : Item) → i.kind ≡ Code c n → fp.fetch p ≡ Here i → Live fp x p) ⊎ ((needed x ≡ true) × (KindDefines (Code c n) x → ⊥))
       by_dead true d e = inr (e, λ h. is_false (needed x) (dead_sets c needed x d h real) e)

@@ -39,15 +39,15 @@ use Rattle.sem_simulation.specs.InPlace.{FallsOrTraps, DoAlike, MayTrap, IsIdleA
 use Rattle.sem_simulation.proofs.Stations.{moves_on_less, code_sync_point, end_is_sync_point, IsSyncPointOf, of_item, of_end, sync_point_is_of}
 use Rattle.sem_simulation.proofs.Laid.{laid_out, in_order_at, one_end, from_home, from_within, from_before_end, falls_down}
 use Rattle.sem_simulation.proofs.InPlace.{in_place_follows}
-use Rattle.sem_agreement.specs.Agreement.{Alike, KillDefs, HeldAfter, Depends}
-use Rattle.sem_agreement.specs.Laws.{ItemsAreAlike}
-use Rattle.sem_agreement.proofs.Items.{items_are_alike}
-use Rattle.sem_agreement.proofs.Views.{does_both, pure_form}
-use Rattle.sem_agreement.proofs.Outcomes.{leaves_pair}
-use Rattle.dce_rule.specs.Dead.{Places, Ends, is_dead_row, is_dead, needed_at, paths_of}
+use Rattle.pass_edits.specs.sem_agreement.Agreement.{Alike, KillDefs, HeldAfter, Depends}
+use Rattle.pass_edits.specs.sem_agreement.Laws.{ItemsAreAlike}
+use Rattle.pass_edits.proofs.sem_agreement.Items.{items_are_alike}
+use Rattle.pass_edits.proofs.sem_agreement.Views.{does_both, pure_form}
+use Rattle.pass_edits.proofs.sem_agreement.Outcomes.{leaves_pair}
+use Rattle.dce_rule.specs.Dead.{Places, Ends, is_dead_row, is_dead_code, is_dead, needed_at, paths_of}
 use Rattle.dce_rule.specs.Wrong.{silenced, silenced_left, is_dead_at, IsWrongAt, made, on, IsClosed, begins_dead}
 use Rattle.dce_rule.specs.Gone.{IsGone, judged_of}
-use Rattle.dce_rule.proofs.Unneeded.{dead_parts, kept_uses_none}
+use Rattle.dce_rule.proofs.Unneeded.{dead_row, dead_parts, kept_uses_none}
 use Rattle.dce_rule.proofs.Forms.{numbers_held, no_pointer}
 use Rattle.dce_rule.proofs.Lists.{quiet, quiet_is, taken, item_from, end_from, end_there, one_past, rest_taken, judged_at, judged_there}
 
@@ -131,7 +131,7 @@ module _ (f : Function) (resolve : OperandPair → Option OperandPair) (sound : 
   pointer_defined p x xs at dead defines =
       by_kind x.kind (each_at (λ i. HasForm i.kind) forms p x xs at) (each_at (λ i. LeavesPointer i.kind) sound.pointer p x xs at) dead defines where
         by_kind : (k : ItemKind) → HasForm k → LeavesPointer k → is_dead k (needed_at xs (ends p.block)) ≡ true → KindDefines k (Register 2) → ⊥
-        by_kind (Code i n) form plain dead defines = no_pointer i form plain (dead_parts (row_of i) (needed_at xs (ends p.block)) dead).0 defines
+        by_kind (Code i n) form plain dead defines = no_pointer i form plain (dead_parts i (needed_at xs (ends p.block)) dead).0 defines
         by_kind (Mark v m) form plain dead defines = cc
         by_kind (Phi l n) form plain dead defines = cc
 
@@ -342,16 +342,16 @@ module _ (f : Function) (resolve : OperandPair → Option OperandPair) (sound : 
           (dead : is_dead x.kind (needed_at xs (ends p.block)) ≡ true) → (c d : Core) → MatchCores p c d →
           FallsOrTraps (MayTrap ct src sides match_states x (left_at (below p) xs)) (λ e. MatchCores (below p) e d) (do_item fp x.kind c)
       dead_falls p x xs i n at code dead c d kin =
-          let row : is_dead_row (row_of i) (needed_at xs (ends p.block)) ≡ true = ap (λ (k : ItemKind). is_dead k (needed_at xs (ends p.block)))
+          let row : is_dead_code i (needed_at xs (ends p.block)) ≡ true = ap (λ (k : ItemKind). is_dead k (needed_at xs (ends p.block)))
           (sym code) ∙ dead in
-          let pure = (dead_parts (row_of i) (needed_at xs (ends p.block)) row).0 in
+          let pure = (dead_parts i (needed_at xs (ends p.block)) row).0 in
           let number : (k : ℕ) → n ≡ Some k → (⊥ → ⊥) → (o : ℕ) → d.pairs k o ≡ None =
           λ k e free o. kin.none k o (gone_number p x xs at dead k (ap code_number code ∙ e)) in
           by_outcome (do_item fp x.kind c) refl
           (subst (λ (k : ItemKind). FallsInto (λ e. Alike (KillDefs (Right p) i) (λ k. ⊥) e d) (do_item fp k c)) (sym code)
           ((laws p).alone fp i n c d pure kin.alike number))
           (subst (λ (k : ItemKind). do_item fp k c ≡ Breaks → ⊥) (sym code)
-          (pure_form fp (Code i n) c (pure, no_unfit (row_of i) (needed_at xs (ends p.block)) row))) where
+          (pure_form fp (Code i n) c (pure, no_unfit (row_of i) (needed_at xs (ends p.block)) (dead_row i (needed_at xs (ends p.block)) row)))) where
             by_outcome : (o : Outcome) → do_item fp x.kind c ≡ o → FallsInto (λ e. Alike (KillDefs (Right p) i) (λ k. ⊥) e d) o → (o ≡ Breaks → ⊥) →
                 FallsOrTraps (MayTrap ct src sides match_states x (left_at (below p) xs)) (λ e. MatchCores (below p) e d) o
             by_outcome (Falls e) is h b =
@@ -428,10 +428,10 @@ module _ (f : Function) (resolve : OperandPair → Option OperandPair) (sound : 
             by_dead : (k : ItemKind) → x.kind ≡ k → is_dead x.kind (needed_at xs (ends p.block)) ≡ true →
                 View ct src sides match_states p.block p (x ∷ xs) (left_at (below p) xs)
             by_dead (Code i n) code dead =
-                let row : is_dead_row (row_of i) (needed_at xs (ends p.block)) ≡ true =
+                let row : is_dead_code i (needed_at xs (ends p.block)) ≡ true =
                 ap (λ (k : ItemKind). is_dead k (needed_at xs (ends p.block))) (sym code) ∙ dead in
                 view_taken {k' = below p} (ap is_code code) (moves_on_less ct x.kind (ap is_jump code ∙ dead_no_jump (row_of i) (needed_at xs
-                (ends p.block)) row))
+                (ends p.block)) (dead_row i (needed_at xs (ends p.block)) row)))
                 (next p x xs at) (λ c d kin. dead_falls p x xs i n at code dead c d kin)
             by_dead (Mark v m) kind dead =
                 let bad : false ≡ true = ap (λ (k : ItemKind). is_dead k (needed_at xs (ends p.block))) (sym kind) ∙ dead in cc

@@ -6,7 +6,13 @@ use Rattle.std.proofs.lemmas.Bool.{cases_eq, cases_lt, eqb-true, or_cases, and_p
 use Rattle.std.proofs.lemmas.List.{drop-drop}
 use Rattle.std.proofs.lemmas.List.Elements.{All-contains}
 use Rattle.rv64_instr.specs.declared.place.Place.TheVariants.{Register, Slot}
-use Rattle.rv64_instr.specs.Row.{Row, LoadsSlot, StoresSlot, Branches, Jumps, Calls, Returns, Unfit, row_of}
+use Rattle.rv64_instr.specs.declared.op.Op.{Op}
+use Rattle.rv64_instr.specs.declared.op.Op.TheVariants.{Load}
+use Rattle.rv64_instr.specs.declared.op.LoadOp.{LoadOp}
+use Rattle.rv64_instr.specs.declared.operand.Operand.{Operand}
+use Rattle.rv64_instr.specs.declared.operand.Operand.TheVariants.{Def, Use, Imm, Slot as SlotOperand, Object as ObjectOperand, Part}
+use Rattle.rv64_instr.specs.Instruction.{is_load, is_volatile_load}
+use Rattle.rv64_instr.specs.Row.{Row, LoadsSlot, StoresSlot, Branches, Jumps, Calls, Returns, Unfit, row_of, row_by, load_row}
 use Rattle.rv64_instr.specs.LocationEffects.{IsSlotStore, names_slot, slot_read, has_implicit_uses, is_outgoing}
 use Rattle.mir_func.specs.declared.position.Pos.{Pos}
 use Rattle.mir_func.specs.declared.position.Origin.{Origin}
@@ -142,8 +148,27 @@ module _ (f : Function) (subs : List DebugSubstitution) (sound : IsSound f) (rou
   not_false true e = refl
   not_false false e = cc
 
+  load_stores : (op : LoadOp) (os : List Operand) → IsSlotStore (load_row op os) → ⊥
+  load_stores op (Def rd ∷ Use base ∷ Imm i ∷ rest) h = h
+  load_stores op (Def rd ∷ SlotOperand n ∷ rest) h = h
+  load_stores op (Def rd ∷ ObjectOperand n ∷ Imm i ∷ rest) h = h
+  load_stores op (Def rd ∷ Use base ∷ Part half y ∷ rest) h = h
+  load_stores op _ h = h
+
+  -- a store to a slot is no load
+  store_no_load : (op : Op) (os : List Operand) (volatile : Bool) → IsSlotStore (row_by op os) → (is_load op && volatile) ≡ false
+  store_no_load (Load op) os volatile h = absurd (load_stores op os h)
+  store_no_load _ os volatile h = refl
+
   slot_needed : (k : ItemKind) (needed : Places) → OnRow IsSlotStore k → is_dead k needed ≡ false → (m : ℕ) × (needed (Slot m) ≡ true)
-  slot_needed (Code i n) needed store stays = by_row (row_of i) store stays where
+  slot_needed (Code i n) needed store stays = by_row (row_of i) store (not_both (is_dead_row (row_of i) needed) stays) where
+    not_both : (b : Bool) → (b && not (is_volatile_load i)) ≡ false → b ≡ false
+    not_both true e =
+        let e' : not (is_volatile_load i) ≡ false = e in
+        let bad : true ≡ false = sym (ap not (store_no_load i.op i.operands i.volatile store)) ∙ e' in
+        cc
+    not_both false e = refl
+
     by_row : (r : Row) → IsSlotStore r → is_dead_row r needed ≡ false → (m : ℕ) × (needed (Slot m) ≡ true)
     by_row (StoresSlot rs m) store stays = (m, not_false (needed (Slot m)) stays)
     by_row _ store stays = absurd store
@@ -370,6 +395,7 @@ settled_follows f subs sound round src fol = record {
       back = fol.shape.back;
       order = fol.shape.order;
       items = fol.shape.items;
+      volatile = fol.shape.volatile;
       stores = stores f subs sound round src fol.shape;
       marks = fol.shape.marks;
     };

@@ -1,8 +1,9 @@
 -- A function without its dead code is a function still, and its code has the form of its opcodes.
 use Rattle.std.proofs.Common.{◌≡◌, ℕ, zero, suc, ◌≤◌, List, [], ◌∷◌, ◌++◌, map, All, Some, Bool, true, false, cond, slice_get}
-use Rattle.std.proofs.Common.{refl, sym, ap, ◌∙◌, subst, arith}
+use Rattle.std.proofs.Common.{not, ◌&&◌, refl, sym, ap, ◌∙◌, subst, arith}
 use Rattle.std.proofs.lemmas.List.{length-map}
 use Rattle.std.proofs.lemmas.List.Elements.{All-map, All-weaker}
+use Rattle.rv64_instr.specs.Instruction.{is_volatile_load}
 use Rattle.rv64_instr.specs.Row.{Row, Jumps, Returns, Unfit, row_of}
 use Rattle.mir_func.specs.declared.position.Pos.{Pos}
 use Rattle.mir_func.specs.declared.position.Origin.{Origin}
@@ -106,7 +107,7 @@ once_left (kept {xs = xs} {ys = ys} x w more) once = by_index (once_left more (o
 
 leaving_stays : (k : ItemKind) (needed : Places) → Leaves (exit_of k) → is_dead k needed ≡ false
 leaving_stays (Code i n) needed h = by_row (row_of i) h where
-  by_row : (r : Row) → Leaves (row_exit r) → is_dead_row r needed ≡ false
+  by_row : (r : Row) → Leaves (row_exit r) → (is_dead_row r needed && not (is_volatile_load i)) ≡ false
   by_row (Jumps t) h = refl
   by_row (Returns v) h = refl
   by_row Unfit h = refl

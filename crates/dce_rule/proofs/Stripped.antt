@@ -12,7 +12,7 @@ use Rattle.mir_func.specs.Function.{Function}
 use Rattle.mir_func.specs.Strip.{stripped, stripped_items, stripped_block, stripped_blocks}
 use Rattle.mir_func.specs.Successors.{pos_in}
 use Rattle.rv64_instr.specs.Row.{row_of}
-use Rattle.dce_rule.specs.Dead.{Places, Ends, is_dead_row, is_dead, needed_before, needed_at, without_dead, thinned_block, thinned, LiveAtEnd, IsRound}
+use Rattle.dce_rule.specs.Dead.{Places, Ends, is_dead_code, is_dead, needed_before, needed_at, without_dead, thinned_block, thinned, LiveAtEnd, IsRound}
 use Rattle.dce_rule.specs.Wrong.{silenced, silenced_left, taken_out}
 use Rattle.dce_rule.specs.Same.{SameItems, none, both, first, SameBlocks, no_blocks, one_more}
 use Rattle.dce_rule.proofs.Lists.{quiet_is, taken}
@@ -45,8 +45,8 @@ module _ (wrong : ℕ → Places) (needed : Places) where
         (record { kind = silenced (wrong n) k; origin = o; loc = l } ∷ silenced_left wrong (suc n) xs needed)) ≡
         without_dead (stripped_items (record { kind = k; origin = o; loc = l } ∷ xs)) needed
     by_kind (Code i m) o l h =
-        by_test (is_dead_row (row_of i) (needed_at xs needed)) ∙
-        ap (λ (z : Places). cond (is_dead_row (row_of i) z) (without_dead (stripped_items xs) needed)
+        by_test (is_dead_code i (needed_at xs needed)) ∙
+        ap (λ (z : Places). cond (is_dead_code i z) (without_dead (stripped_items xs) needed)
         (record { kind = Code i None; origin = o; loc = l } ∷ without_dead (stripped_items xs) needed)) (sym (needed_stripped xs needed)) where
           by_test : (z : Bool) → stripped_items (cond z (silenced_left wrong (suc n) xs needed)
               (record { kind = Code i m; origin = o; loc = l } ∷ silenced_left wrong (suc n) xs needed)) ≡

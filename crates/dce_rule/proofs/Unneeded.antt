@@ -6,7 +6,7 @@ use Rattle.std.proofs.lemmas.List.Elements.{All-contains}
 use Rattle.std.specs.List.{list_any}
 use Rattle.rv64_instr.specs.declared.place.Place.{Place}
 use Rattle.rv64_instr.specs.declared.place.Place.TheVariants.{Register, Slot, Const}
-use Rattle.rv64_instr.specs.Instruction.{Instruction}
+use Rattle.rv64_instr.specs.Instruction.{Instruction, is_volatile_load}
 use Rattle.rv64_instr.specs.Row.{Row, Branches, Jumps, Returns, Calls, Unfit, row_of}
 use Rattle.rv64_instr.specs.LocationEffects.{set_by, is_pure, is_call, uses_of, defines_of}
 use Rattle.rv64_instr.specs.LocationEffects.{first_use, second_use, is_register, is_implicit_use, has_implicit_uses}
@@ -27,14 +27,18 @@ use Rattle.sem_mir.proofs.Parts.{effects_hold}
 use Rattle.sem_mir.proofs.Reading.{found_in}
 use Rattle.sem_simulation.specs.MatchStates.{Laid, IsPastItems}
 use Rattle.sem_simulation.proofs.Laid.{laid_out}
-use Rattle.dce_rule.specs.Dead.{Places, Ends, sets_unneeded, is_dead_row, is_dead, needed_before, needed_at, paths_of}
+use Rattle.dce_rule.specs.Dead.{Places, Ends, sets_unneeded, is_dead_row, is_dead_code, is_dead, needed_before, needed_at, paths_of}
 use Rattle.dce_rule.specs.Wrong.{begins_dead, IsWrongAt, made, on, IsClosed}
 
 -- ---- dead code
 
+pub dead_row : (i : Instruction) (needed : Places) → is_dead_code i needed ≡ true → is_dead_row (row_of i) needed ≡ true
+dead_row i needed e = (and_parts (is_dead_row (row_of i) needed) (not (is_volatile_load i)) e).0
+
 -- it is pure, and what it sets isn't needed
-pub dead_parts : (r : Row) (needed : Places) → is_dead_row r needed ≡ true → (is_pure r ≡ true) × (sets_unneeded (set_by r) r needed ≡ true)
-dead_parts r needed e = and_parts (is_pure r) (sets_unneeded (set_by r) r needed) e
+pub dead_parts : (i : Instruction) (needed : Places) → is_dead_code i needed ≡ true →
+    (is_pure (row_of i) ≡ true) × (sets_unneeded (set_by (row_of i)) (row_of i) needed ≡ true)
+dead_parts i needed e = and_parts (is_pure (row_of i)) (sets_unneeded (set_by (row_of i)) (row_of i) needed) (dead_row i needed e)
 
 pub pure_no_call : (r : Row) → is_pure r ≡ true → is_call r ≡ false
 pure_no_call (Calls call) e = cc
@@ -52,10 +56,10 @@ not_true true e = cc
 not_true false e = refl
 
 -- what it defines isn't needed behind it, but for x0
-pub dead_sets : (i : Instruction) (needed : Places) (x : Place) → is_dead_row (row_of i) needed ≡ true → defines_of (row_of i) x ≡ true →
+pub dead_sets : (i : Instruction) (needed : Places) (x : Place) → is_dead_code i needed ≡ true → defines_of (row_of i) x ≡ true →
     (x ≡ Register 0 → ⊥) → needed x ≡ false
 dead_sets i needed x dead defines ne =
-    let k = dead_parts (row_of i) needed dead in
+    let k = dead_parts i needed dead in
     elim (effects_hold.sets i x (pure_no_call (row_of i) k.0) defines) [
       | inl e ↦ absurd (ne e)
       | inr e ↦ not_true (needed x) (ap (λ (z : Option Place). sets_unneeded z (row_of i) needed) (sym e) ∙ k.1)
@@ -71,20 +75,20 @@ and_true false = refl
 jump_needs : (k : ItemKind) → IsAlways (exit_of k) → (needed : Places) (x : Place) → needed_before k needed x ≡ needed x
 jump_needs (Code i n) always needed (Register q) = by_row (row_of i) always where
   by_row : (r : Row) → IsAlways (row_exit r) →
-      cond (is_dead_row r needed) (needed (Register q))
+      cond (is_dead_row r needed && not (is_volatile_load i)) (needed (Register q))
       ((is_register q (first_use r) || is_register q (second_use r) || (has_implicit_uses r && list_any (is_implicit_use q) i.operands))
       || (needed (Register q) && not (defines_of r (Register q)))) ≡ needed (Register q)
   by_row (Jumps t) h = and_true (needed (Register q))
   by_row _ h = absurd h
 jump_needs (Code i n) always needed (Slot m) = by_row (row_of i) always where
   by_row : (r : Row) → IsAlways (row_exit r) →
-      cond (is_dead_row r needed) (needed (Slot m)) ((names_slot (slot_read r) m || (has_implicit_uses r && list_any (is_outgoing m) i.operands))
+      cond (is_dead_row r needed && not (is_volatile_load i)) (needed (Slot m)) ((names_slot (slot_read r) m || (has_implicit_uses r && list_any (is_outgoing m) i.operands))
       || (needed (Slot m) && not (defines_of r (Slot m)))) ≡ needed (Slot m)
   by_row (Jumps t) h = and_true (needed (Slot m))
   by_row _ h = absurd h
 jump_needs (Code i n) always needed (Const z) = by_row (row_of i) always where
   by_row : (r : Row) → IsAlways (row_exit r) →
-      cond (is_dead_row r needed) (needed (Const z)) (false || (needed (Const z) && not (defines_of r (Const z)))) ≡ needed (Const z)
+      cond (is_dead_row r needed && not (is_volatile_load i)) (needed (Const z)) (false || (needed (Const z) && not (defines_of r (Const z)))) ≡ needed (Const z)
   by_row (Jumps t) h = and_true (needed (Const z))
   by_row _ h = absurd h
 jump_needs (Mark v m) always needed x = absurd always
@@ -259,8 +263,8 @@ module _ (f : Function) (wells : All (λ (b : Block). EndsWell b.items) f.blocks
       live = needed_at is needed
 
       by_kind : (k : ItemKind) → needed_before k live x ≡ false → (is_dead k live ≡ false → KindDefines k x → ⊥) → live x ≡ false
-      by_kind (Code c n) out ne = by_dead (is_dead_row (row_of c) live) refl out where
-        by_dead : (z : Bool) → is_dead_row (row_of c) live ≡ z →
+      by_kind (Code c n) out ne = by_dead (is_dead_code c live) refl out where
+        by_dead : (z : Bool) → is_dead_code c live ≡ z →
             cond z (live x) (uses_of c x || (live x && not (defines_of (row_of c) x))) ≡ false → live x ≡ false
         by_dead true d out = out
         by_dead false d out =
@@ -294,11 +298,11 @@ module _ (f : Function) (wells : All (λ (b : Block). EndsWell b.items) f.blocks
 
     -- so code that stays doesn't use it
     pub kept_uses_none : (p : Pos) (i : Instruction) (n : Option ℕ) (y : Item) (is : List Item) → rf p ≡ y ∷ is → y.kind ≡ Code i n →
-        is_dead_row (row_of i) (needed_at is (ends p.block)) ≡ false → uses_of i x ≡ true → IsWrongAt ends f x p → ⊥
+        is_dead_code i (needed_at is (ends p.block)) ≡ false → uses_of i x ≡ true → IsWrongAt ends f x p → ⊥
     kept_uses_none p i n y is at code stays uses w =
         let out : needed_at (y ∷ is) (ends p.block) x ≡ false = ap (λ (z : List Item). needed_at z (ends p.block) x) (sym at) ∙ (wrong_unneeded w).unneeded in
         let live : Places = needed_at is (ends p.block) in
-        let e : cond (is_dead_row (row_of i) live) (live x) (uses_of i x || (live x && not (defines_of (row_of i) x))) ≡ false =
+        let e : cond (is_dead_code i live) (live x) (uses_of i x || (live x && not (defines_of (row_of i) x))) ≡ false =
         ap (λ (k : ItemKind). needed_before k live x) (sym code) ∙ out in
         let u : (uses_of i x || (live x && not (defines_of (row_of i) x))) ≡ false =
         ap (λ (z : Bool). cond z (live x) (uses_of i x || (live x && not (defines_of (row_of i) x)))) (sym stays) ∙ e in

@@ -2,6 +2,7 @@
 use Rattle.std.specs.Prelude.{◌≡◌, ◌↔◌, ℕ, List, [], ◌∷◌, map, Option, Some, None, Bool, true, false, cond, not, ◌&&◌, ◌||◌}
 use Rattle.rv64_instr.specs.declared.place.Place.{Place}
 use Rattle.rv64_instr.specs.declared.place.Place.TheVariants.{Register}
+use Rattle.rv64_instr.specs.Instruction.{Instruction, is_volatile_load}
 use Rattle.rv64_instr.specs.Row.{Row, row_of}
 use Rattle.rv64_instr.specs.LocationEffects.{set_by, is_pure, uses_of, defines_of}
 use Rattle.mir_func.specs.declared.block.Block.{Block}
@@ -26,16 +27,20 @@ sets_unneeded None r needed = defines_of r (Register 0)
 abbrev pub is_dead_row : Row → (needed : Places) → Bool
 is_dead_row r needed = is_pure r && sets_unneeded (set_by r) r needed
 
+-- the instruction is dead code. A volatile load never is, whatever it sets
+abbrev pub is_dead_code : Instruction → (needed : Places) → Bool
+is_dead_code i needed = is_dead_row (row_of i) needed && not (is_volatile_load i)
+
 -- the item is dead code; debug items never are
 abbrev pub is_dead : ItemKind → (needed : Places) → Bool
-is_dead (Code i k) needed = is_dead_row (row_of i) needed
+is_dead (Code i k) needed = is_dead_code i needed
 is_dead (Mark v m) needed = false
 is_dead (Phi p k) needed = false
 
 -- the places needed before an item, from those needed after it. Dead code needs nothing, nor do debug values and
 -- DBG_PHIs
 abbrev pub needed_before : ItemKind → (needed : Places) → Places
-needed_before (Code i k) needed = λ x. cond (is_dead_row (row_of i) needed) (needed x) (uses_of i x || (needed x && not (defines_of (row_of i) x)))
+needed_before (Code i k) needed = λ x. cond (is_dead_code i needed) (needed x) (uses_of i x || (needed x && not (defines_of (row_of i) x)))
 needed_before (Mark v m) needed = needed
 needed_before (Phi p k) needed = needed
 

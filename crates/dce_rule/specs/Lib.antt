@@ -5,3 +5,4 @@ pub mod RemovalDebugRule
 pub mod Rounds
 pub mod Same
 pub mod CodeLaws
+pub use Rattle.pass_trait.specs as pass_trait

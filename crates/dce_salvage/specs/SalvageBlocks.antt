@@ -3,7 +3,7 @@ use Rattle.std.specs.Prelude.{◌≡◌, ℕ, List, [], ◌∷◌, drop, length,
 use Rattle.mir_func.specs.declared.block.Block.{Block}
 use Rattle.mir_func.specs.declared.item.Item.{Item}
 use Rattle.mir_func.specs.declared.debug_substitution.DebugSubstitution.{DebugSubstitution}
-use Rattle.pass_trait.specs.declared.loss.Loss.{Loss}
+use Rattle.pass_salvage.specs.pass_trait.declared.loss.Loss.{Loss}
 use Rattle.pass_salvage.specs.SalvageAction.{going_from}
 use Rattle.dce_salvage.specs.SalvageNumbers.{SoFar, salvage_down, numbered_copy}
 

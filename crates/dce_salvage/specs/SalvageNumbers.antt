@@ -6,9 +6,9 @@ use Rattle.mir_func.specs.declared.debug_substitution.DebugSubstitution.{DebugSu
 use Rattle.mir_func.specs.declared.item.Item.{Item}
 use Rattle.mir_func.specs.declared.item.ItemKind.{ItemKind}
 use Rattle.mir_func.specs.declared.item.ItemKind.TheVariants.{Code, Mark, Phi}
-use Rattle.pass_trait.specs.declared.loss.Reason.TheVariants.{WrongPlace}
-use Rattle.pass_trait.specs.declared.loss.Loss.{Loss}
-use Rattle.pass_trait.specs.Rule.{item_before, number_lost}
+use Rattle.pass_salvage.specs.pass_trait.declared.loss.Reason.TheVariants.{WrongPlace}
+use Rattle.pass_salvage.specs.pass_trait.declared.loss.Loss.{Loss}
+use Rattle.pass_salvage.specs.pass_trait.Rule.{item_before, number_lost}
 use Rattle.pass_salvage.specs.declared.salvage_action.SalvageAction.{SalvageAction}
 use Rattle.pass_salvage.specs.declared.salvage_action.SalvageAction.TheVariants.{HasEntry, GetsEntry, GetsPhi}
 use Rattle.pass_salvage.specs.Salvage.{above_after, phi_for, entries_for, fresh_after}

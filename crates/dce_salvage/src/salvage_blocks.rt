@@ -10,8 +10,8 @@ use crate::salvage_numbers::{numbered_copy, salvage_numbers};
 use base_list::List;
 use mir_func::block::Block;
 use mir_func::item::{Item, ItemKind};
-use mir_substitution::substitutions::Substitutions;
-use pass_trait::loss::Loss;
+use pass_salvage::mir_substitution_crate::substitutions::Substitutions;
+use pass_salvage::pass_trait_crate::loss::Loss;
 use std::alloc::{AllocError, Global};
 
 /// Removes the numbers from the dead copies of blocks, from the last block to the first, and in each from the last item

@@ -190,7 +190,7 @@ module _ (f : Function) (above : List Block) (id source_end : ℕ) (behind : Lis
           follows = number_to_nowhere (fn (up ++ copy ∷ down)) (fn (up ++ bare ∷ down)) subs k sound sound' refl
               (around E above id source_end (up ++ copy ∷ down) (up ++ bare ∷ down) (stays_blocks E (λ n. tt) above (each_block above far.above))
               (stays_above E tt up (copy ∷ down) (bare ∷ down) (all up far.up)
-              (pair refl (code_kin (row_itself (row_of i))) drops (stays_items E tt down tt (all down far.down))))
+              (pair refl (code_kin (row_itself (row_of i)) refl) drops (stays_items E tt down tt (all down far.down))))
               (stays_blocks E (λ n. tt) behind (each_block behind far.behind)));
         }
 
@@ -207,6 +207,6 @@ module _ (f : Function) (above : List Block) (id source_end : ℕ) (behind : Lis
               (around E above id source_end (up ++ copy ∷ down) (up ++ phi_none k o ∷ bare ∷ down) (stays_blocks E (λ n. tt) above (each_block above far.above))
               (stays_above E tt up (copy ∷ down) (phi_none k o ∷ bare ∷ down) (all up far.up)
               (put refl refl puts
-              (pair refl (code_kin (row_itself (row_of i))) drops (stays_items E tt down tt (all down far.down)))))
+              (pair refl (code_kin (row_itself (row_of i)) refl) drops (stays_items E tt down tt (all down far.down)))))
               (stays_blocks E (λ n. tt) behind (each_block behind far.behind)));
         }

@@ -8,5 +8,8 @@
 //!   the weak simulation, whichever items count as dead.
 #![tactic(auto)]
 
+pub use dce_salvage as dce_salvage_crate;
+pub use pass_salvage as pass_salvage_crate;
+
 pub mod drop_laws;
 pub mod salvage_laws;

@@ -18,11 +18,11 @@ use Rattle.mir_func.specs.Function.{Function}
 use Rattle.mir_func.specs.Graph.{Fetch, Here, EndOfBlock, Edge, FetchEdge, KindEdge, below, block_start, from_block, front, fetch_in, end_of, rest_in}
 use Rattle.mir_func.specs.Successors.{pos_in}
 use Rattle.mir_func.proofs.Ways.{IsDown}
-use Rattle.sem_mir.specs.Live.{Defines, KindDefines}
+use Rattle.pass_liveness.specs.sem_mir.Live.{Defines, KindDefines}
 use Rattle.pass_liveness.proofs.Edges.{Stays, down_edge, out_edge}
 use Rattle.pass_liveness.proofs.Paths.{next_of}
-use Rattle.dce_rule.specs.Dead.{Places, Ends, paths_of}
-use Rattle.dce_rule.specs.Wrong.{begins_dead, is_dead_at, IsWrongAt, made, on}
+use Rattle.dce_analysis.specs.dce_rule.Dead.{Places, Ends, paths_of}
+use Rattle.dce_analysis.specs.dce_rule.Wrong.{begins_dead, is_dead_at, IsWrongAt, made, on}
 use Rattle.dce_analysis.specs.Judge.{verdicts}
 use Rattle.dce_stale.specs.Flow.{wrong_past, wrong_over, wrong_at, goes_on, IsHanded, IsHandedDown}
 

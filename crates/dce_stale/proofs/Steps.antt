@@ -8,7 +8,7 @@ use Rattle.mir_func.specs.declared.item.Item.{Item}
 use Rattle.mir_func.specs.Exits.{exit_of}
 use Rattle.mir_func.proofs.Ways.{IsOut}
 use Rattle.pass_liveness.specs.Sets.{has}
-use Rattle.dce_rule.specs.Dead.{Places}
+use Rattle.dce_analysis.specs.dce_rule.Dead.{Places}
 use Rattle.dce_stale.specs.Flow.{wrong_past, wrong_next, wrong_over, wrong_at, IsHanded, IsHandedDown}
 use Rattle.dce_stale.specs.Sets.{Handed}
 use Rattle.dce_stale.proofs.Handing.{handed_none, handed_as, handed_grows, handed_stays, handed_both}

@@ -16,7 +16,7 @@ use Rattle.mir_func.specs.Graph.{Fetch, Here, Edge, FetchEdge, block_start, from
 use Rattle.mir_func.specs.Sound.{IsSound, AllItems, SlotsIn, AreApart, TargetIn, TargetsIn, ids_of}
 use Rattle.mir_func.specs.Successors.{pos_in}
 use Rattle.mir_func.proofs.Ways.{IsOut}
-use Rattle.sem_mir.specs.Live.{Defines}
+use Rattle.pass_liveness.specs.sem_mir.Live.{Defines}
 use Rattle.dataflow.specs.Fixpoint.{Visited}
 use Rattle.pass_liveness.specs.Index.{index_in}
 use Rattle.pass_liveness.specs.Sets.{has}
@@ -26,8 +26,8 @@ use Rattle.pass_liveness.proofs.Edges.{Stays, kind_edge}
 use Rattle.pass_liveness.proofs.Blocks.{block_found, from_block-at, next_of-drop, index_at, items_at_is, all_below}
 use Rattle.pass_liveness.proofs.Paths.{next_of}
 use Rattle.pass_liveness.proofs.Places.{has_nothing}
-use Rattle.dce_rule.specs.Dead.{Places, Ends, paths_of}
-use Rattle.dce_rule.specs.Wrong.{is_dead_at, IsWrongAt, made, on}
+use Rattle.dce_analysis.specs.dce_rule.Dead.{Places, Ends, paths_of}
+use Rattle.dce_analysis.specs.dce_rule.Wrong.{is_dead_at, IsWrongAt, made, on}
 use Rattle.dce_analysis.specs.Judge.{verdicts}
 use Rattle.dce_stale.specs.Flow.{wrong_past, wrong_over, wrong_at, goes_on, IsHanded, IsHandedDown}
 use Rattle.dce_stale.specs.Sets.{AreVerdicts, Handed, HandsOn, IsClosed, AreFound, IsState, wrong_in, wrong_of, StaleSets, starts_of, AreStaleSets}

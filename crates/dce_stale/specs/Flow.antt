@@ -11,7 +11,7 @@ use Rattle.mir_func.specs.declared.item.ItemKind.{ItemKind}
 use Rattle.mir_func.specs.declared.item.ItemKind.TheVariants.{Code, Mark, Phi}
 use Rattle.mir_func.specs.Exits.{exit_of}
 use Rattle.mir_func.proofs.Ways.{IsOut}
-use Rattle.dce_rule.specs.Dead.{Places}
+use Rattle.dce_analysis.specs.dce_rule.Dead.{Places}
 
 -- the places that are wrong after an item: dead code makes wrong what it sets, and other code makes right what it sets
 abbrev pub wrong_past : ItemKind → (dead : Bool) → (before : Places) → Places

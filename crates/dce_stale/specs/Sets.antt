@@ -9,8 +9,8 @@ use Rattle.mir_func.specs.Sound.{AllItems, SlotsIn, ids_of, AreApart}
 use Rattle.pass_liveness.specs.Sets.{has}
 use Rattle.pass_liveness.specs.Liveness.{has_at_start, items_at}
 use Rattle.pass_liveness.specs.Solving.{gap_of}
-use Rattle.dce_rule.specs.Dead.{Places, Ends}
-use Rattle.dce_rule.specs.Wrong.{IsWrongAt}
+use Rattle.dce_analysis.specs.dce_rule.Dead.{Places, Ends}
+use Rattle.dce_analysis.specs.dce_rule.Wrong.{IsWrongAt}
 use Rattle.dce_analysis.specs.Judge.{verdicts}
 use Rattle.dce_stale.specs.Flow.{wrong_at, IsHanded, IsHandedDown}
 

@@ -4,6 +4,8 @@
 //! except over back edges. Within a block it is computed item by item, with the same transfer step.
 #![tactic(auto)]
 
+pub use dce_analysis as dce_analysis_crate;
+
 pub mod places;
 mod solve;
 mod walk;

@@ -19,13 +19,13 @@ use Rattle.mir_func.specs.Successors.{pos_in}
 use Rattle.sem_mir.specs.Align.{is_code}
 use Rattle.sem_mir.proofs.Reading.{found_in}
 use Rattle.pass_trait.specs.declared.loss.Loss.{Loss}
-use Rattle.dce_rule.specs.Dead.{Places, Ends, is_dead, needed_at, without_dead, thinned_block, IsRound}
-use Rattle.dce_rule.specs.Wrong.{begins_dead, silenced, silenced_left, silenced_block, taken_out, is_dead_at, IsWrongAt, made, on}
-use Rattle.dce_rule.specs.RemovalDebugRule.{LosesOf}
-use Rattle.dce_rule.proofs.Lists.{quiet}
-use Rattle.dce_rule.proofs.Sound.{left_of, left_items}
-use Rattle.dce_rule.proofs.Fewer.{count_left, quiet_code}
-use Rattle.dce_analysis.specs.Judge.{verdicts, AreJudged}
+use Rattle.dce_stale.specs.dce_rule.Dead.{Places, Ends, is_dead, needed_at, without_dead, thinned_block, IsRound}
+use Rattle.dce_stale.specs.dce_rule.Wrong.{begins_dead, silenced, silenced_left, silenced_block, taken_out, is_dead_at, IsWrongAt, made, on}
+use Rattle.dce_stale.specs.dce_rule.RemovalDebugRule.{LosesOf}
+use Rattle.dce_stale.proofs.dce_rule.Lists.{quiet}
+use Rattle.dce_stale.proofs.dce_rule.Sound.{left_of, left_items}
+use Rattle.dce_stale.proofs.dce_rule.Fewer.{count_left, quiet_code}
+use Rattle.dce_stale.specs.dce_analysis.Judge.{verdicts, AreJudged}
 use Rattle.dce_stale.specs.Sets.{AreVerdicts, StaleSets, AreStaleSets, wrong_of, starts_of}
 use Rattle.dce_stale.proofs.Exact.{begins_at}
 use Rattle.dce_sweep.specs.Left.{lost_in}

@@ -2,8 +2,8 @@
 use Rattle.std.proofs.Common.{◌≡◌, ℕ, Option, Some, None, true, false, cond, Bool, refl, sym, ap}
 use Rattle.rv64_instr.specs.declared.place.Place.{Place}
 use Rattle.mir_func.specs.declared.item.ItemKind.TheVariants.{Phi}
-use Rattle.dce_rule.specs.Dead.{Places}
-use Rattle.dce_rule.specs.Wrong.{silenced}
+use Rattle.dce_stale.specs.dce_rule.Dead.{Places}
+use Rattle.dce_stale.specs.dce_rule.Wrong.{silenced}
 use Rattle.dce_sweep.specs.Left.{asks_wrong}
 
 pub phi_wrong : (w : Places) (p : Option Place) (k : ℕ) → asks_wrong w p ≡ true → Phi None k ≡ silenced w (Phi p k)

@@ -10,9 +10,9 @@ use Rattle.mir_func.specs.declared.position.Pos.{Pos}
 use Rattle.mir_func.specs.declared.block.Block.{Block}
 use Rattle.mir_func.specs.declared.item.Item.{Item}
 use Rattle.pass_trait.specs.declared.loss.Loss.{Loss}
-use Rattle.dce_rule.specs.Dead.{Places, Ends, is_dead, needed_at}
-use Rattle.dce_rule.specs.Wrong.{begins_dead, silenced, silenced_left, silenced_block}
-use Rattle.dce_analysis.specs.Judge.{verdicts}
+use Rattle.dce_stale.specs.dce_rule.Dead.{Places, Ends, is_dead, needed_at}
+use Rattle.dce_stale.specs.dce_rule.Wrong.{begins_dead, silenced, silenced_left, silenced_block}
+use Rattle.dce_stale.specs.dce_analysis.Judge.{verdicts}
 use Rattle.dce_stale.specs.Flow.{wrong_next, wrong_at}
 use Rattle.dce_stale.proofs.Exact.{begins_at, drop_at}
 use Rattle.dce_stale.proofs.Steps.{step_at}

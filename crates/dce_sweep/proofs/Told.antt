@@ -19,11 +19,11 @@ use Rattle.sem_mir.proofs.Reading.{found, found_in}
 use Rattle.pass_trait.specs.declared.loss.Reason.TheVariants.{Removed, WrongPlace}
 use Rattle.pass_trait.specs.declared.loss.Loss.{Loss}
 use Rattle.pass_trait.specs.Rule.{StandsAt, number_lost, mark_lost}
-use Rattle.dce_rule.specs.Dead.{Places, Ends, is_dead, needed_at}
-use Rattle.dce_rule.specs.Wrong.{begins_dead, is_dead_at}
-use Rattle.dce_rule.specs.RemovalDebugRule.{LosesOf, LosesAt, AreWrong}
-use Rattle.dce_rule.proofs.Lists.{rest_at}
-use Rattle.dce_analysis.specs.Judge.{verdicts}
+use Rattle.dce_stale.specs.dce_rule.Dead.{Places, Ends, is_dead, needed_at}
+use Rattle.dce_stale.specs.dce_rule.Wrong.{begins_dead, is_dead_at}
+use Rattle.dce_stale.specs.dce_rule.RemovalDebugRule.{LosesOf, LosesAt, AreWrong}
+use Rattle.dce_stale.proofs.dce_rule.Lists.{rest_at}
+use Rattle.dce_stale.specs.dce_analysis.Judge.{verdicts}
 use Rattle.dce_sweep.specs.Left.{lost_of, lost_from, lost_in_block, lost_in}
 use Rattle.dce_sweep.proofs.Steps.{verdict_is}
 

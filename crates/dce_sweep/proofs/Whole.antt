@@ -12,9 +12,9 @@ use Rattle.pass_liveness.specs.Index.{index_in}
 use Rattle.pass_liveness.specs.Sets.{has}
 use Rattle.pass_liveness.specs.Liveness.{set_at}
 use Rattle.pass_liveness.proofs.Blocks.{from_block-at, index_at, get_at, get_or_any}
-use Rattle.dce_rule.specs.Dead.{Ends}
-use Rattle.dce_rule.specs.Wrong.{silenced_left, silenced_block}
-use Rattle.dce_analysis.specs.Judge.{verdicts}
+use Rattle.dce_stale.specs.dce_rule.Dead.{Ends}
+use Rattle.dce_stale.specs.dce_rule.Wrong.{silenced_left, silenced_block}
+use Rattle.dce_stale.specs.dce_analysis.Judge.{verdicts}
 use Rattle.dce_stale.specs.Flow.{wrong_at}
 use Rattle.dce_stale.specs.Sets.{AreVerdicts, StaleSets, AreStaleSets, starts_of, wrong_in, wrong_of}
 use Rattle.dce_sweep.specs.Left.{left_from, lost_from, lost_in_block}

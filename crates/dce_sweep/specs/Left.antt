@@ -13,9 +13,9 @@ use Rattle.mir_func.specs.declared.item.ItemKind.TheVariants.{Code, Mark, Phi}
 use Rattle.pass_trait.specs.declared.loss.Reason.TheVariants.{Removed, WrongPlace}
 use Rattle.pass_trait.specs.declared.loss.Loss.{Loss}
 use Rattle.pass_trait.specs.Rule.{number_lost, mark_lost}
-use Rattle.dce_rule.specs.Dead.{Places, Ends}
-use Rattle.dce_rule.specs.Wrong.{silenced}
-use Rattle.dce_analysis.specs.Judge.{verdicts}
+use Rattle.dce_stale.specs.dce_rule.Dead.{Places, Ends}
+use Rattle.dce_stale.specs.dce_rule.Wrong.{silenced}
+use Rattle.dce_stale.specs.dce_analysis.Judge.{verdicts}
 
 -- a DBG_PHI of this location reads a wrong place
 abbrev pub asks_wrong : (wrong : Places) → Option Place → Bool

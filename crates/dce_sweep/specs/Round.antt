@@ -7,11 +7,11 @@ use Rattle.mir_func.specs.Function.{Function}
 use Rattle.mir_func.specs.Sound.{AllItems, HasForm}
 use Rattle.pass_trait.specs.declared.loss.Loss.{Loss}
 use Rattle.pass_trait.specs.Sizes.{code_count}
-use Rattle.dce_rule.specs.Dead.{Places, Ends, IsRound}
-use Rattle.dce_rule.specs.CodeLaws.{AreLive}
-use Rattle.dce_rule.specs.Wrong.{taken_out}
-use Rattle.dce_rule.specs.RemovalDebugRule.{LosesAt, AreWrong}
-use Rattle.dce_analysis.specs.Judge.{verdicts}
+use Rattle.dce_stale.specs.dce_rule.Dead.{Places, Ends, IsRound}
+use Rattle.dce_stale.specs.dce_rule.CodeLaws.{AreLive}
+use Rattle.dce_stale.specs.dce_rule.Wrong.{taken_out}
+use Rattle.dce_stale.specs.dce_rule.RemovalDebugRule.{LosesAt, AreWrong}
+use Rattle.dce_stale.specs.dce_analysis.Judge.{verdicts}
 
 -- some item of the blocks is dead code
 abbrev pub has_dead : Ends → List Block → Bool

@@ -4,8 +4,8 @@ ghost use Rattle.std.specs.Prelude.{◌≡◌, ◌++◌, map, cond, Some, None, 
 ghost use Rattle.mir_func.specs.declared.item.ItemKind.TheVariants.{Mark, Phi};
 ghost use Rattle.mir_func.specs.Sound.{SlotsIn};
 ghost use Rattle.pass_liveness.specs.Sets.{has};
-ghost use Rattle.dce_rule.specs.Dead.{Ends};
-ghost use Rattle.dce_rule.specs.Wrong.{silenced, silenced_block};
+ghost use Rattle.dce_stale.specs.dce_rule.Dead.{Ends};
+ghost use Rattle.dce_stale.specs.dce_rule.Wrong.{silenced, silenced_block};
 ghost use Rattle.dce_stale.specs.Flow.{wrong_at};
 ghost use Rattle.dce_stale.specs.Sets.{AreVerdicts, AreStaleSets, wrong_of, starts_of};
 ghost use Rattle.dce_sweep.specs.Left.{asks_wrong, left_of, lost_of, left_from, lost_from, lost_in};

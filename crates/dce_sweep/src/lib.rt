@@ -3,5 +3,8 @@
 //! there one forward walk over each block builds what remains of it. Losses are reported in the order of the text.
 #![tactic(auto)]
 
+pub use dce_stale::dce_analysis_crate as dce_analysis_crate;
+pub use pass_liveness as pass_liveness_crate;
+
 mod left;
 pub mod round;

@@ -8,8 +8,8 @@ ghost use Rattle.dce_sweep.specs.Round.{IsTakenOut};
 
 use crate::left::left_blocks;
 use base_list::List;
-use dce_analysis::judge::judge;
 use dce_salvage::dead_indices::some_dead;
+use dce_stale::dce_analysis_crate::judge::judge;
 use dce_stale::places::StaleLocations;
 use mir_func::func::Func;
 use mir_type_facts::blocks::know_forms;

@@ -25,7 +25,7 @@ use Rattle.rv64_word.specs.declared.word_op.WordOp.{WordOp}
 use Rattle.rv64_word.specs.declared.word_op.WordOp.TheVariants.{Registers, Immediate, Lui, Branch, Load, Store, Jal, Jalr}
 use Rattle.rv64_word.specs.MachineOp.{is_encodable}
 use Rattle.rv64_word.specs.Lowering.{lowered, fields_of, register_fields, immediate_fields, object_fields, upper_fields, branch_fields, load_fields}
-use Rattle.rv64_word.specs.Lowering.{store_fields, copy_fields, jump_fields, in_range, machine_op, held_fields}
+use Rattle.rv64_word.specs.Lowering.{store_fields, copy_fields, jump_fields, in_range, machine_op, held_fields, held_call_fields}
 use Rattle.mir_func.specs.declared.block.Block.{Block}
 use Rattle.mir_func.specs.declared.item.Item.{Item}
 use Rattle.mir_func.specs.declared.item.ItemKind.{ItemKind}
@@ -104,6 +104,11 @@ unfolding inv
 jump_kept (OfBlock n ∷ rest) offset = refl
 jump_kept operands offset = refl
 
+held_call_kept : (operands : List Operand) → held_call_fields operands ≡ option_map inv (held_call_fields operands)
+unfolding inv
+held_call_kept (Use r ∷ rest) = refl
+held_call_kept operands = refl
+
 held_kept : (link : ℕ) (xs : List ℕ) → held_fields link xs ≡ option_map inv (held_fields link xs)
 unfolding inv
 held_kept link [] = refl
@@ -121,7 +126,7 @@ op_inverted source.Copy operands offset = copy_kept operands
 op_inverted source.PseudoBr operands offset = jump_kept operands offset
 op_inverted source.PseudoCall operands offset = refl
 op_inverted source.PseudoRet operands offset = refl
-op_inverted source.PseudoCallIndirect operands offset = held_kept 1 (implicit_uses operands)
+op_inverted source.PseudoCallIndirect operands offset = held_call_kept operands
 op_inverted source.PseudoTail operands offset = refl
 op_inverted source.PseudoTailIndirect operands offset = held_kept 0 (implicit_uses operands)
 op_inverted source.NoReturnCall operands offset = refl

@@ -40,7 +40,7 @@ use Rattle.mir_func.specs.Objects.{offset_of}
 use Rattle.mir_func.specs.Sound.{SlotIn, ObjectIn, HasBytes}
 use Rattle.mir_func.specs.SoundFrame.{IsPhysical}
 use Rattle.rv64_instr.specs.Form.{is_within, has_12_bits, is_immediate, is_addi, is_implicit, fits_registers, fits_immediate, fits_upper, fits_branch}
-use Rattle.rv64_instr.specs.Form.{fits_load, fits_store, fits_copy, fits_jump, has_form, is_argument, is_last_argument, is_call_register, is_held_tail_use}
+use Rattle.rv64_instr.specs.Form.{fits_load, fits_store, fits_copy, fits_jump, has_form, is_last_argument, is_call_register, is_held_tail_use}
 use Rattle.rv64_instr.specs.Form.{is_held_tail_register, fits_call, fits_held_call, fits_gone, fits_held_gone, fits_tail, fits_held_tail}
 use Rattle.rv64_instr.proofs.Tails.{held_callee, tail_callee, callee_low}
 use Rattle.rv64_word.specs.MachineOp.{fits, is_encodable, is_even}
@@ -181,9 +181,9 @@ left true b h = refl
 left false b h = h
 
 registers_word : (op : RegisterOp) (operands : List Operand) (offset : ℤ) (object : ℕ) → IsTrue (fits_registers operands) → Physical operands →
-    HasWord offset object (record { op = source.Registers op; operands = operands })
+    HasWord offset object (record { op = source.Registers op; operands = operands; volatile = false })
 registers_word op (Def rd ∷ Use a ∷ Use b ∷ rest) offset object form physical =
-    with_word offset object (record { op = source.Registers op; operands = Def rd ∷ Use a ∷ Use b ∷ rest }) (machine_op (Registers op) rd a b (pos 0)) refl
+    with_word offset object (record { op = source.Registers op; operands = Def rd ∷ Use a ∷ Use b ∷ rest; volatile = false }) (machine_op (Registers op) rd a b (pos 0)) refl
     (register_encodes op rd a b (physical 0 Mask (omega arith)) (physical 1 Mask (omega arith)) (physical 2 Mask (omega arith)))
 registers_word op operands offset object form physical = absurd cc
 
@@ -199,7 +199,7 @@ OffsetFits (Always n) offset = IsTrue (is_within (negsuc 1048575) (pos 1048574) 
 OffsetFits Final offset = Unit {0}
 
 abbrev instruction : Op → List Operand → Instruction
-instruction op operands = record { op = op; operands = operands }
+instruction op operands = record { op = op; operands = operands; volatile = false }
 
 branch_word : (op : BranchOp) (operands : List Operand) (offset : ℤ) (object : ℕ) → IsTrue (fits_branch operands) → Physical operands →
     OffsetFits (row_exit (row_of (instruction (source.Branch op) operands))) offset → HasWord offset object (instruction (source.Branch op) operands)
@@ -326,13 +326,12 @@ module _ (slots : List ℕ) (objects : List Object) (own : ℕ) (low : (n : ℕ)
   held_encodes : (link r : ℕ) → link < 32 → r < 32 → encodes (machine_op Jalr link r 0 (pos 0))
   held_encodes link r l h = is_fit format.Immediate (machine_op Jalr link r 0 (pos 0)) (l, h, refl, refl)
 
-  held_call_word : (operands : List Operand) (offset : ℤ) (object : ℕ) → IsTrue (fits_held_call operands) →
+  held_call_word : (operands : List Operand) (offset : ℤ) (object : ℕ) → IsTrue (fits_held_call operands) → Physical operands →
       HasWord offset object (instruction source.PseudoCallIndirect operands)
-  held_call_word (ImplicitUse r ∷ Mask ∷ rest) offset object form =
-      let is = held_callee r (and_parts (is_call_register r) (list_all is_argument rest) form).0 in
-      with_word offset object (instruction source.PseudoCallIndirect (ImplicitUse r ∷ Mask ∷ rest)) (machine_op Jalr 1 r 0 (pos 0))
-      (ap (held_fields 1) (held_fit r (Mask ∷ rest) is.0)) (held_encodes 1 r (omega arith) is.1)
-  held_call_word operands offset object form = absurd cc
+  held_call_word (Use r ∷ Mask ∷ rest) offset object form physical =
+      with_word offset object (instruction source.PseudoCallIndirect (Use r ∷ Mask ∷ rest)) (machine_op Jalr 1 r 0 (pos 0)) refl
+      (held_encodes 1 r (omega arith) (physical 0 Mask (omega arith)))
+  held_call_word operands offset object form physical = absurd cc
 
   held_tail_word : (operands : List Operand) (offset : ℤ) (object : ℕ) → IsTrue (fits_held_tail operands) →
       HasWord offset object (instruction source.PseudoTailIndirect operands)
@@ -377,7 +376,7 @@ module _ (slots : List ℕ) (objects : List Object) (own : ℕ) (low : (n : ℕ)
   code_word source.Copy operands offset form physical slot inside fit other = copy_word operands offset _ form physical
   code_word source.PseudoBr operands offset form physical slot inside fit other = jump_word operands offset _ form fit
   code_word source.PseudoCall operands offset form physical slot inside fit other = absurd (other (named_call operands form))
-  code_word source.PseudoCallIndirect operands offset form physical slot inside fit other = held_call_word operands offset _ form
+  code_word source.PseudoCallIndirect operands offset form physical slot inside fit other = held_call_word operands offset _ form physical
   code_word source.PseudoTail operands offset form physical slot inside fit other = absurd (other (named_tail operands form))
   code_word source.PseudoTailIndirect operands offset form physical slot inside fit other = held_tail_word operands offset _ form
   code_word source.NoReturnCall operands offset form physical slot inside fit other = absurd (other (named_gone operands form))

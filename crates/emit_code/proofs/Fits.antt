@@ -18,10 +18,10 @@ use Rattle.rv64_instr.specs.declared.operand.Operand.TheVariants.{Def, Use, Imm,
 use Rattle.rv64_instr.specs.declared.symbol.Half.TheVariants.{Upper, Lower}
 use Rattle.rv64_instr.specs.Arithmetic.{word}
 use Rattle.rv64_instr.specs.Form.{is_addi, is_immediate, is_implicit, fits_registers, fits_immediate, fits_upper, fits_branch, fits_load, fits_store, fits_copy}
-use Rattle.rv64_instr.specs.Form.{fits_jump, fits_call, has_form, is_argument, is_last_argument, is_call_register, is_held_tail_use}
+use Rattle.rv64_instr.specs.Form.{fits_jump, fits_call, has_form, is_last_argument, is_call_register, is_held_tail_use}
 use Rattle.rv64_instr.specs.Form.{is_held_tail_register, fits_held_call, fits_gone, fits_held_gone, fits_tail, fits_held_tail}
 use Rattle.rv64_instr.specs.Row.{Unfit, move_row, add_row, immediate_row, object_row, registers_row, number_row, upper_row, branch_row, load_row, store_row}
-use Rattle.rv64_instr.specs.Row.{copy_row, jump_row, call_row, row_by, implicit_uses, outgoing_words, held_call}
+use Rattle.rv64_instr.specs.Row.{copy_row, jump_row, call_row, row_by, implicit_uses}
 use Rattle.rv64_instr.specs.Row.{held_tail, held_gone, held_call_row, tail_row, held_tail_row, gone_row, held_gone_row}
 use Rattle.rv64_instr.proofs.Tails.{IsTailRegister, tail_callee, held_callee}
 
@@ -99,10 +99,7 @@ callee_not_two r (inr (inr (inl is))) e = let a = is.0 in omega (arith, a, e)
 callee_not_two r (inr (inr (inr is))) e = let a = is.0 in omega (arith, a, e)
 
 held_call_fit : (operands : List Operand) → IsTrue (fits_held_call operands) → held_call_row operands ≡ Unfit → ⊥
-held_call_fit (ImplicitUse r ∷ Mask ∷ rest) form e =
-    let ne = (held_callee r (and_parts (is_call_register r) (list_all is_argument rest) form).0).0 in
-    let bad : held_call (r ∷ implicit_uses rest) (outgoing_words rest) ≡ Unfit =
-    sym (ap (λ (xs : List ℕ). held_call xs (outgoing_words rest)) (held_fit r (Mask ∷ rest) ne)) ∙ e in cc
+held_call_fit (Use r ∷ Mask ∷ rest) form e = cc
 held_call_fit operands form e = absurd cc
 
 tail_fit : (operands : List Operand) → IsTrue (fits_tail operands) → tail_row operands ≡ Unfit → ⊥

@@ -160,8 +160,9 @@ module _ (l : Layout) (s : Sound l) where
       ObjectIn l.framed.objects (row_of c) → OffsetFits (row_exit (row_of c)) offset → (has_site (row_of c) ≡ true → ⊥) →
       HasWord offset (object_offset l.framed (object_named (row_of c))) c
   code_has_word c offset form physical slot object fit other =
-      subst (λ (n : ℕ). HasWord offset n c) (place_same (object_named (row_of c)))
-      (code_word (slot_offsets l.framed) l.framed.objects (own_size l.framed) slot_low room_of c.op c.operands offset form physical slot object fit other)
+      let w = code_word (slot_offsets l.framed) l.framed.objects (own_size l.framed) slot_low room_of c.op c.operands offset form physical slot object fit other
+      in
+      subst (λ (n : ℕ). HasWord offset n c) (place_same (object_named (row_of c))) (record { operation = w.operation; is = w.is })
 
   module _ (p : Pos) (i : Item) (c : Instruction) (k : Option ℕ) (at : fetch_in (drop p.block l.framed.blocks) p.item ≡ Here i) (is : i.kind ≡ Code c k) where
     of_kind : (P : ItemKind → Type 0) → AllItems (λ x. P x.kind) l.framed.blocks → P (Code c k)

@@ -3,7 +3,7 @@ use Rattle.std.specs.Prelude.{ℕ, ◌+◌, pos, ◌+ℤ◌, List, [], ◌∷◌
 use Rattle.std.specs.List.{flat_map}
 use Rattle.rv64_instr.specs.declared.operand.Operand.{Operand}
 use Rattle.rv64_instr.specs.declared.operand.Operand.TheVariants.{Use, Imm, Slot, Object}
-use Rattle.rv64_instr.specs.Instruction.{Instruction}
+use Rattle.rv64_instr.specs.Instruction.{Instruction, is_volatile_load}
 use Rattle.mir_func.specs.declared.item.ItemKind.{ItemKind}
 use Rattle.mir_func.specs.declared.item.ItemKind.TheVariants.{Code, Mark, Phi}
 use Rattle.mir_func.specs.declared.position.Origin.{Origin}
@@ -25,9 +25,9 @@ by_pointer f (r ∷ Slot n ∷ Imm i ∷ rest) = r ∷ Use 2 ∷ Imm (pos n) ∷
 by_pointer f (r ∷ Object n ∷ Imm i ∷ rest) = r ∷ Use 2 ∷ Imm (pos (own_size f + offset_of f.objects n) +ℤ i) ∷ rest
 by_pointer f operands = operands
 
--- an instruction with its slots and stack objects as offsets from x2, as after frame index elimination (LLVM)
+-- an instruction with its slots and stack objects as offsets from x2, as after frame index elimination (LLVM). Only a load is shown as volatile
 abbrev pub listed : FramedFunction → Instruction → Instruction
-listed f i = record i { operands = by_pointer f i.operands }
+listed f i = record i { operands = by_pointer f i.operands; volatile = is_volatile_load i }
 
 -- a line from its parts
 abbrev pub line : (address : ℕ) → Origin → Instruction → Line

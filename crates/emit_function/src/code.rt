@@ -4,7 +4,7 @@ ghost use Rattle.std.specs.Prelude.{◌≡◌, ◌<◌, ◌≤◌, ◌%◌, IfOk
 ghost use Rattle.mir_func.specs.Limits.{MAX_FRAME};
 ghost use Rattle.mir_func.specs.Sound.{AllItems};
 ghost use Rattle.mir_func.specs.SoundFrame.{HasPhysical};
-ghost use Rattle.frame_rule.specs.Rule.{reach_of, framed_of};
+ghost use Rattle.frame_lowering.specs.frame_rule.Rule.{reach_of, framed_of};
 ghost use Rattle.emit_code.specs.Counts.{MAX_WORDS, MAX_BASE, count_of};
 ghost use Rattle.emit_code.specs.Laid.{IsCodeOf};
 ghost use Rattle.emit_function.specs.declared.code.CodeError.TheVariants.{Memory};

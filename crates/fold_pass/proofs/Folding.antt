@@ -9,7 +9,7 @@ use Rattle.fold_targets.specs.Leads.{lead}
 use Rattle.fold_targets.proofs.Ways.{one_end}
 use Rattle.fold_rule.specs.Reached.{Reached}
 use Rattle.fold_rule.specs.Rule.{AreFolded}
-use Rattle.fold_rule_proof.specs.Kills.{with_kills, IsFoldedWithKills}
+use Rattle.fold_proof.specs.fold_rule_proof.Kills.{with_kills, IsFoldedWithKills}
 use Rattle.fold_proof.specs.Lost.{all_lost}
 use Rattle.fold_pass.specs.Folded.{AreFoldedWithLosses}
 

@@ -6,8 +6,8 @@ use Rattle.mir_func.specs.Sound.{IsSound}
 use Rattle.pass_trait.specs.declared.loss.Loss.{Loss}
 use Rattle.pass_trait.specs.Change.{change}
 use Rattle.pass_trait.specs.Steps.{KeepsSteps}
-use Rattle.fold_rule_proof.specs.Kills.{IsFoldedWithKills}
-use Rattle.fold_rule_proof.proofs.KillSound.{sound_killed}
+use Rattle.fold_proof.specs.fold_rule_proof.Kills.{IsFoldedWithKills}
+use Rattle.fold_proof.proofs.fold_rule_proof.KillSound.{sound_killed}
 use Rattle.fold_proof.specs.Follows.{KillsStrip}
 use Rattle.fold_proof.specs.Debug.{fold_step}
 use Rattle.fold_proof.specs.Keeps.{FoldedKeepsItems}

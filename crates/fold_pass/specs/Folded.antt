@@ -6,7 +6,7 @@ use Rattle.pass_trait.specs.Order.{IsInOrder}
 use Rattle.fold_targets.specs.Leads.{lead}
 use Rattle.fold_rule.specs.Reached.{Reached}
 use Rattle.fold_rule.specs.Rule.{AreFolded}
-use Rattle.fold_rule_proof.specs.Kills.{with_kills}
+use Rattle.fold_proof.specs.fold_rule_proof.Kills.{with_kills}
 use Rattle.fold_proof.specs.Lost.{all_lost}
 
 -- the blocks are folded, kills are added where the chains of bypassed blocks end, and the losses are all losses, in

@@ -8,5 +8,7 @@
 //!   undef where their chains end, and is reported as lost.
 #![tactic(auto)]
 
+pub use pass_losses as pass_losses_crate;
+
 pub mod fold;
 pub mod lost;

@@ -1,10 +1,13 @@
 -- The shape of a folded function: its blocks, and what its items are.
 use Rattle.std.proofs.Common.{◌≡◌, ◌⊎◌, ℕ, suc, ◌*◌, ◌≤◌, List, [], ◌∷◌, ◌++◌, map, length, All, Option, Some, None, Bool, true}
 use Rattle.std.proofs.Common.{false, cond, nat_eq}
-use Rattle.std.proofs.Common.{refl, sym, ◌∙◌, subst, inl, inr, arith}
+use Rattle.std.proofs.Common.{refl, sym, ap, ◌∙◌, subst, inl, inr, arith}
+use Rattle.std.specs.Prelude.{◌&&◌}
 use Rattle.std.proofs.lemmas.List.Elements.{All-nil, All-cons, All-head, All-tail, All-weaker, All-append}
 use Rattle.rv64_instr.specs.declared.op.Op.{Op}
+use Rattle.rv64_instr.specs.declared.op.Op.TheVariants.{Branch}
 use Rattle.rv64_instr.specs.declared.operand.Operand.{Operand}
+use Rattle.rv64_instr.specs.Instruction.{Instruction, is_load, is_volatile_load}
 use Rattle.rv64_instr.specs.Row.{Row, Branches, Jumps, row_of, row_by}
 use Rattle.mir_func.specs.declared.block.Block.{Block}
 use Rattle.mir_func.specs.declared.exit.Exit.{Exit}
@@ -21,7 +24,8 @@ use Rattle.mir_func.specs.Exits.{row_exit, exit_of, Leaves}
 use Rattle.mir_func.specs.Graph.{Program, Fetch, Here, EndOfBlock, Outside}
 use Rattle.mir_func.specs.Sound.{IsJumpAtMost, MayFollow, EndsWell, Closes, LastCloses, OriginIn, ids_of}
 use Rattle.mir_func.specs.Positions.{position_of}
-use Rattle.sem_mir.specs.Follow.{ItemHasClass, HasClass, RowFits, KindFits, MarkFits, rank, next_rank, InOrder, Among, none, same, left}
+use Rattle.sem_mir.specs.Follow.{ItemHasClass, HasClass, RowFits, KindFits, IsVolatile, StaysVolatile, MarkFits, rank, next_rank, InOrder, Among, none}
+use Rattle.sem_mir.specs.Follow.{same, left}
 use Rattle.rv64_instr.specs.View.{class_of}
 use Rattle.rv64_instr.specs.Inverse.{inverse_op, inverse}
 use Rattle.sem_mir.specs.InitialState.{first_of as first_number}
@@ -235,10 +239,50 @@ module _ (src : Program) (source_end : ℕ) where
   moved_fits (Mark v m) l t o e h k = cc
   moved_fits (Phi p m) l t o e h k = cc
 
+-- ---- what ends a block is no load
+
+inverse_loads : (op : Op) → is_load (inverse_op op) ≡ is_load op
+inverse_loads (Branch op) = refl
+inverse_loads _ = refl
+
+ending_no_load : (op : Op) (os : List Operand) → IsEnding op os → is_load op ≡ false
+ending_no_load _ _ (branch {op} {a} {b} {t} {rest}) = refl
+ending_no_load _ _ (jump {t} {rest}) = refl
+
+no_volatile : (i : Instruction) → Leads (row_exit (row_of i)) → is_volatile_load i ≡ false
+no_volatile i l = ap (λ (b : Bool). b && i.volatile) (ending_no_load i.op i.operands (is_ending i.op i.operands l))
+
+sent_volatile : (src : Program) (k : ItemKind) (n : ℕ) (o : Origin) → StaysVolatile src k o → StaysVolatile src (with_code (to_block n) k) o
+sent_volatile src (Code i m) n (Kept p) h = h
+sent_volatile src (Code i m) n (Before p) h = tt
+sent_volatile src (Mark v m) n o h = tt
+sent_volatile src (Phi p m) n o h = tt
+
+turned_volatile : (src : Program) (k : ItemKind) (n : ℕ) (o : Origin) → StaysVolatile src k o → StaysVolatile src (with_code (inverse_to n) k) o
+turned_volatile src (Code i m) n (Kept p) h = subst (λ (b : Bool). IsVolatile (b && i.volatile) (src.fetch p)) (sym (inverse_loads i.op)) h
+turned_volatile src (Code i m) n (Before p) h = tt
+turned_volatile src (Mark v m) n o h = tt
+turned_volatile src (Phi p m) n o h = tt
+
+moved_volatile : (src : Program) (k l : ItemKind) (t : ℕ) (o : Origin) → exit_of k ≡ Perhaps t → StaysVolatile src k o → Leads (exit_of l) →
+    StaysVolatile src l o
+moved_volatile src (Code i m) (Code j n) t (Kept p) e h l =
+    subst (λ (b : Bool). IsVolatile b (src.fetch p)) (no_volatile i (subst Leads (sym e) tt) ∙ sym (no_volatile j l)) h
+moved_volatile src (Code i m) (Code j n) t (Before p) e h l = tt
+moved_volatile src (Code i m) (Mark v n) t o e h l = absurd l
+moved_volatile src (Code i m) (Phi p n) t o e h l = absurd l
+moved_volatile src (Mark v m) l t o e h k = cc
+moved_volatile src (Phi p m) l t o e h k = cc
+
 kill_fits : (src : Program) (source_end : ℕ) (k : ItemKind) (o : Origin) → IsKillKind k → KindFits src k source_end o
 kill_fits src source_end (Mark v m) o h = tt
 kill_fits src source_end (Phi p n) o h = tt
 kill_fits src source_end (Code i n) o h = absurd h
+
+kill_volatile : (src : Program) (k : ItemKind) (o : Origin) → IsKillKind k → StaysVolatile src k o
+kill_volatile src (Mark v m) o h = tt
+kill_volatile src (Phi p n) o h = tt
+kill_volatile src (Code i n) o h = absurd h
 
 kill_marks : (k : ItemKind) (o : Origin) → IsKillKind k → MarkFits k o
 kill_marks (Mark v Nothing) o h = tt
@@ -316,6 +360,7 @@ pub record Facts (src : Program) (b : Block) : Type 0 where
   pub ends : EndsWell b.items
   pub order : InOrder b.id 0 b.items
   pub fits : All (λ (i : Item). KindFits src i.kind b.source_end i.origin) b.items
+  pub volatile : All (λ (i : Item). StaysVolatile src i.kind i.origin) b.items
   pub marks : All (λ (i : Item). MarkFits i.kind i.origin) b.items
   pub origins : All (λ (i : Item). OriginIn b i.origin) b.items
 
@@ -347,6 +392,17 @@ module _ (end : ℕ → ℕ) (stays was : ℕ → Bool) (old : List Block) (src 
       b.items h.ends onto h.fits) where
         P : Item → Type 0
         P i = KindFits src i.kind b.source_end i.origin
+
+  pub volatile_made : (b : Block) (rest : List Block) → Facts src b → (first_id rest ≡ None → Closes b.items) →
+      All (λ (i : Item). StaysVolatile src i.kind i.origin) (made_block end stays was old b rest).items
+  volatile_made b rest h onto =
+      All-append P (kills end was old b.id) (rewritten end (first_id (staying stays rest)) (first_id rest) (silent_of b) b.items)
+      (All-weaker (IsKill b.id) P (λ i k. kill_volatile src i.kind i.origin k.kind) (kills end was old b.id) (each_kill end was old b.id))
+      (all_anew P end (first_id (staying stays rest)) (first_id rest) (silent_of b) (λ x n l p. sent_volatile src x.kind n x.origin p)
+      (λ x n t e p. turned_volatile src x.kind n x.origin p) (λ n. tt) (λ x j t e p l. moved_volatile src x.kind j.kind t x.origin e p l)
+      b.items h.ends onto h.volatile) where
+        P : Item → Type 0
+        P i = StaysVolatile src i.kind i.origin
 
   pub marks_made : (b : Block) (rest : List Block) → Facts src b → (first_id rest ≡ None → Closes b.items) →
       All (λ (i : Item). MarkFits i.kind i.origin) (made_block end stays was old b rest).items

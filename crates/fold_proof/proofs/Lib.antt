@@ -23,3 +23,4 @@ mod Weights
 mod Gone
 mod Holding
 mod Growing
+pub use Rattle.fold_rule_proof.proofs as fold_rule_proof

@@ -19,7 +19,7 @@ use Rattle.mir_func.specs.Exits.{row_exit, exit_of, IsAlways}
 use Rattle.mir_func.specs.Graph.{Program, Here, fetch_in, from_block, program_of, Leads as LeadsFrom, stay}
 use Rattle.mir_func.specs.Sound.{IsJumpAtMost, MayFollow, EndsWell, Closes}
 use Rattle.mir_func.specs.Positions.{position_of}
-use Rattle.sem_mir.specs.Follow.{InOrder, KindFits, MarkFits, OnRow, IsEnd, Shape, IsMetApart, EndIsKept, EndComesFrom}
+use Rattle.sem_mir.specs.Follow.{InOrder, KindFits, StaysVolatile, MarkFits, OnRow, IsEnd, Shape, IsMetApart, EndIsKept, EndComesFrom}
 use Rattle.sem_mir.proofs.Reading.{found, found_in, item_front}
 use Rattle.fold_targets.specs.Leads.{first_id}
 use Rattle.fold_rule.specs.Tails.{rewritten}
@@ -30,7 +30,7 @@ use Rattle.fold_rule_proof.proofs.Kills.{IsKillKind, IsKill, each_kill}
 use Rattle.fold_proof.proofs.Placed.{made_was}
 use Rattle.fold_proof.proofs.Along.{last_closes, none_after}
 use Rattle.fold_proof.proofs.Folding.{Folding, old, end, stays, was, new, fp, gp, apart_new}
-use Rattle.fold_proof.proofs.Items.{among_made, first_made, each_made, Facts, order_made, fits_made, marks_made}
+use Rattle.fold_proof.proofs.Items.{among_made, first_made, each_made, Facts, order_made, fits_made, volatile_made, marks_made}
 use Rattle.fold_proof.proofs.Paths.{stands_in, back_new}
 use Rattle.fold_proof.proofs.Tails.{nothing_at, onward_was}
 use Rattle.fold_proof.proofs.Stores.{at_new, Above, above, stand_along, stands_there}
@@ -100,6 +100,7 @@ module _ (fold : Folding) (src : List Block) (subs : OperandPair → Option Oper
       ends = fold.sound.ends k d lt;
       order = shape.order k d lt;
       fits = shape.items k d lt;
+      volatile = shape.volatile k d lt;
       marks = shape.marks k d lt;
       origins = fold.sound.origins k d lt;
     }
@@ -227,6 +228,8 @@ module _ (fold : Folding) (src : List Block) (subs : OperandPair → Option Oper
           (order_made (end fold) (stays fold) (was fold) (old fold) srcp) (old fold) facts (inr fold.sound.last);
       items = each_made (end fold) (stays fold) (was fold) (old fold) (Facts srcp) (λ b. All (λ (i : Item). KindFits srcp i.kind b.source_end i.origin) b.items)
           (fits_made (end fold) (stays fold) (was fold) (old fold) srcp) (old fold) facts (inr fold.sound.last);
+      volatile = each_made (end fold) (stays fold) (was fold) (old fold) (Facts srcp) (λ b. All (λ (i : Item). StaysVolatile srcp i.kind i.origin) b.items)
+          (volatile_made (end fold) (stays fold) (was fold) (old fold) srcp) (old fold) facts (inr fold.sound.last);
       stores = stores;
       marks = each_made (end fold) (stays fold) (was fold) (old fold) (Facts srcp) (λ b. All (λ (i : Item). MarkFits i.kind i.origin) b.items)
           (marks_made (end fold) (stays fold) (was fold) (old fold) srcp) (old fold) facts (inr fold.sound.last);

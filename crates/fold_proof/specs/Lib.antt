@@ -5,3 +5,4 @@ pub mod Lost
 pub mod Debug
 pub mod Keeps
 pub mod Sizes
+pub use Rattle.fold_rule_proof.specs as fold_rule_proof

@@ -1,5 +1,5 @@
 -- Branches and jumps with other targets (RISC-V Unprivileged ISA, RV32I, "Conditional Branches").
-use Rattle.std.specs.Prelude.{ℕ, List, [], ◌∷◌, None}
+use Rattle.std.specs.Prelude.{ℕ, false, List, [], ◌∷◌, None}
 use Rattle.std.specs.List.{slice_set}
 use Rattle.rv64_instr.specs.declared.op.Op.{Op}
 use Rattle.rv64_instr.specs.declared.op.Op.TheVariants.{Registers, Immediate, Lui, Branch, Load, Store, Copy}
@@ -36,11 +36,11 @@ aimed NoReturnCallIndirect n operands = operands
 
 -- the branch or jump with the block as target
 abbrev pub to_block : (block : ℕ) → Instruction → Instruction
-to_block n i = record { op = i.op; operands = aimed i.op n i.operands }
+to_block n i = record i { operands = aimed i.op n i.operands }
 
 -- the conditional branch with its condition inverted and the block as target
 abbrev pub inverse_to : (block : ℕ) → Instruction → Instruction
-inverse_to n i = record { op = inverse_op i.op; operands = aimed i.op n i.operands }
+inverse_to n i = record i { op = inverse_op i.op; operands = aimed i.op n i.operands }
 
 -- code with its instruction changed; debug items are unchanged
 abbrev pub with_code : (Instruction → Instruction) → ItemKind → ItemKind
@@ -58,4 +58,4 @@ turned n x = record x { kind = with_code (inverse_to n) x.kind }
 
 -- a new `PseudoBR %bb.N` without number, with this origin and debug location
 abbrev pub made_jump : (block : ℕ) → Origin → Loc → Item
-made_jump n o l = record { kind = Code (record { op = PseudoBr; operands = OfBlock n ∷ [] }) None; origin = o; loc = l }
+made_jump n o l = record { kind = Code (record { op = PseudoBr; operands = OfBlock n ∷ []; volatile = false }) None; origin = o; loc = l }

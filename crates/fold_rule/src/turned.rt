@@ -49,6 +49,7 @@ pub fn made_jump(
     let jump = Instr {
         op: Op::PseudoBr,
         operands,
+        volatile: false,
     };
     Ok(Item {
         kind: ItemKind::Code(jump, None),
@@ -92,7 +93,7 @@ fn set_block(operands: &mut Operands, index: usize, block: BlockId)
 
 /// Inverts a conditional branch.
 fn invert(i: &mut Instr)
-    ensures { i.new ≡ record { op = inverse_op i.old.op; operands = i.old.operands } }
+    ensures { i.new ≡ record i.old { op = inverse_op i.old.op } }
 {
     i.op = inverse_op(i.op);
 }

@@ -10,3 +10,4 @@ pub mod Sound
 pub mod StepAlike
 pub mod Kills
 pub mod KillSound
+pub use Rattle.pass_trait.proofs as pass_trait

@@ -12,7 +12,7 @@ use Rattle.rv64_instr.specs.declared.operand.Operand.{Operand}
 use Rattle.rv64_instr.specs.declared.operand.Operand.TheVariants.{Def, Use, Imm, Slot, Object, Block as OfBlock, Symbol}
 use Rattle.rv64_instr.specs.Arithmetic.{word}
 use Rattle.rv64_instr.specs.Row.{Row, Branches, Jumps}
-use Rattle.rv64_instr.specs.Row.{row_of, row_by, immediate_row, object_row, move_row, implicit_uses, outgoing_words, held_call, held_tail, held_gone}
+use Rattle.rv64_instr.specs.Row.{row_of, row_by, immediate_row, object_row, move_row, implicit_uses, held_tail, held_gone}
 use Rattle.rv64_instr.specs.Inverse.{inverse_op}
 use Rattle.mir_func.specs.declared.exit.Exit.{Exit}
 use Rattle.mir_func.specs.declared.exit.Exit.TheVariants.{Onward, Perhaps, Always, Final}
@@ -52,10 +52,6 @@ pub data IsEnding : Op → List Operand → Type 0 where
   branch : {op : BranchOp} {a b t : ℕ} {rest : List Operand} → IsEnding (Branch op) (Use a ∷ Use b ∷ OfBlock t ∷ rest)
   jump : {t : ℕ} {rest : List Operand} → IsEnding PseudoBr (OfBlock t ∷ rest)
 
-held_call_leads : (xs outgoing : List ℕ) → Leads (row_exit (held_call xs outgoing)) → ⊥
-held_call_leads [] outgoing h = h
-held_call_leads (r ∷ xs) outgoing h = h
-
 held_tail_leads : (xs : List ℕ) → Leads (row_exit (held_tail xs)) → ⊥
 held_tail_leads [] h = h
 held_tail_leads (r ∷ xs) h = h
@@ -80,7 +76,7 @@ is_ending (Store op) (Use rs ∷ Slot m ∷ rest) h = absurd h
 is_ending (Store op) (Use rs ∷ Object m ∷ Imm i ∷ rest) h = absurd h
 is_ending Copy (Def rd ∷ Use rs ∷ rest) h = absurd (subst Leads (onward_move rd rs) h)
 is_ending PseudoCall (Symbol name ∷ rest) h = absurd h
-is_ending PseudoCallIndirect os h = absurd (held_call_leads (implicit_uses os) (outgoing_words os) h)
+is_ending PseudoCallIndirect (Use r ∷ rest) h = absurd h
 is_ending PseudoTail (Symbol name ∷ rest) h = absurd h
 is_ending PseudoTailIndirect os h = absurd (held_tail_leads (implicit_uses os) h)
 is_ending NoReturnCall (Symbol name ∷ rest) h = absurd h

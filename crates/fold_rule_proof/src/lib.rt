@@ -10,6 +10,8 @@
 //! - `kill_laws`: Kills: what a bypassed block would have assigned becomes undef at the block where its chain ends.
 #![tactic(auto)]
 
+pub use fold_rule as fold_rule_crate;
+
 pub mod kill_laws;
 pub mod rule_laws;
 pub mod step_laws;

@@ -1,6 +1,6 @@
 -- Jump-only blocks: blocks without code, or whose first code is a jump.
 use Rattle.std.specs.Prelude.{ℕ, List, [], ◌∷◌, Option, Some, None, cond, nat_eq, drop}
-use Rattle.rv64_instr.specs.Row.{row_of}
+use Rattle.mir_func.specs.rv64_instr.Row.{row_of}
 use Rattle.mir_func.specs.declared.block.Block.{Block}
 use Rattle.mir_func.specs.declared.exit.Exit.{Exit}
 use Rattle.mir_func.specs.declared.exit.Exit.TheVariants.{Onward, Perhaps, Always, Final}

@@ -9,7 +9,7 @@ use Rattle.mir_func.specs.declared.item.ItemKind.{ItemKind}
 use Rattle.mir_func.specs.declared.item.ItemKind.TheVariants.{Code, Mark, Phi}
 use Rattle.mir_func.specs.declared.location.Loc.{Loc}
 use Rattle.fold_targets.specs.Leads.{lead}
-use Rattle.fold_rule.specs.Tails.{is_number}
+use Rattle.fold_rule_proof.specs.fold_rule.Tails.{is_number}
 use Rattle.fold_rule_proof.specs.Kills.{kill_by, once, is_bypassed, kills, with_kills}
 use Rattle.fold_undef.specs.declared.kill.Kill.{Kill}
 use Rattle.fold_undef.specs.Bypassed.{end_past}

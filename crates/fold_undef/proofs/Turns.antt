@@ -4,7 +4,7 @@ use Rattle.std.proofs.Common.{length, get_or, take, Option}
 use Rattle.std.proofs.Common.{cond, append_assoc, append-nil, sym, ap, ◌∙◌}
 use Rattle.std.proofs.lemmas.List.{take_more}
 use Rattle.mir_func.specs.declared.block.Block.{Block}
-use Rattle.fold_rule.specs.Tails.{is_number}
+use Rattle.fold_rule_proof.specs.fold_rule.Tails.{is_number}
 use Rattle.fold_undef.specs.declared.kill.Kill.{Kill}
 use Rattle.fold_undef.specs.Kill.{kills_in}
 use Rattle.fold_undef.specs.steps.Gathered.{kills_to}

@@ -6,12 +6,12 @@ ghost use Rattle.mir_func.specs.Sound.{AreApart, ids_of};
 ghost use Rattle.fold_targets.specs.Leads.{lead};
 ghost use Rattle.fold_targets.specs.Ends.{told, end_in};
 ghost use Rattle.fold_targets.specs.Ways.{EndsAt};
-ghost use Rattle.fold_rule.specs.Reached.{Reached};
+ghost use Rattle.fold_rule_proof.specs.fold_rule.Reached.{Reached};
 ghost use Rattle.fold_undef.specs.Bypassed.{end_past};
 
 use base_ids::function_ids::BlockId;
-use fold_rule::reached::reached_before;
-use fold_rule::ways::end_of;
+use fold_rule_proof::fold_rule_crate::reached::reached_before;
+use fold_rule_proof::fold_rule_crate::ways::end_of;
 use fold_targets::ends::ends;
 use fold_targets::leads::leads;
 use mir_func::block::Block;

@@ -111,6 +111,7 @@ fn adds_to_pointer(alloc: Global, n: i64) -> Result<Instr, AllocError>
     Ok(Instr {
         op: Op::Immediate(ImmediateOp::Addi),
         operands,
+        volatile: false,
     })
 }
 
@@ -125,6 +126,7 @@ fn saves(alloc: Global, s: SavedRegister) -> Result<Instr, AllocError>
     Ok(Instr {
         op: Op::Store(StoreOp::Sd),
         operands,
+        volatile: false,
     })
 }
 
@@ -139,5 +141,6 @@ fn restores(alloc: Global, s: SavedRegister) -> Result<Instr, AllocError>
     Ok(Instr {
         op: Op::Load(LoadOp::Ld),
         operands,
+        volatile: false,
     })
 }

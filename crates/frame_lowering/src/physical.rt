@@ -59,6 +59,7 @@ fn is_operand_physical(operand: &Operand) -> bool
         | Operand::Object(_)
         | Operand::Part(_, _)
         | Operand::Outgoing(_)
+        | Operand::GlobalRegisters
         | Operand::Block(_)
         | Operand::Symbol(_)
         | Operand::Mask => true,

@@ -37,6 +37,7 @@ fn renamed_code(alloc: Global, slots: &SlotOffsets, i: &Instr) -> Result<Instr, 
     Ok(Instr {
         op: i.op,
         operands: renamed_operands(alloc, slots, i.operands.as_slice())?,
+        volatile: i.volatile,
     })
 }
 
@@ -67,6 +68,7 @@ fn renamed_operand(slots: &SlotOffsets, operand: &Operand) -> Result<Operand, Al
         | Operand::Imm(_)
         | Operand::Object(_)
         | Operand::Part(_, _)
+        | Operand::GlobalRegisters
         | Operand::Block(_)
         | Operand::Symbol(_)
         | Operand::Mask => operand.copy(),

@@ -11,11 +11,11 @@ use Rattle.rv64_instr.specs.declared.op.Op.TheVariants.{PseudoTail, PseudoTailIn
 use Rattle.rv64_instr.specs.declared.op.ImmediateOp.{ImmediateOp}
 use Rattle.rv64_instr.specs.declared.op.ImmediateOp.TheVariants.{Addi}
 use Rattle.rv64_instr.specs.declared.operand.Operand.{Operand}
-use Rattle.rv64_instr.specs.declared.operand.Operand.TheVariants.{Def, Use, ImplicitUse, Imm, Slot, Object, Part, Block, Symbol}
+use Rattle.rv64_instr.specs.declared.operand.Operand.TheVariants.{Def, Use, ImplicitUse, GlobalRegisters, Imm, Slot, Object, Part, Block, Symbol}
 use Rattle.rv64_instr.specs.Arithmetic.{word, taken, load_width, store_width}
 use Rattle.rv64_instr.specs.Form.{has_form, is_result, is_tail_use, is_held_tail_use, is_held_tail_register}
 use Rattle.rv64_instr.specs.Row.{Row, Loads, Stores, LoadsSlot, Branches, Jumps, Calls, row_of, CallSite}
-use Rattle.rv64_instr.specs.Row.{row_by, move_row, immediate_row, object_row, implicit_uses, outgoing_words, held_call, held_tail, held_gone}
+use Rattle.rv64_instr.specs.Row.{row_by, move_row, immediate_row, object_row, implicit_uses, held_tail, held_gone}
 use Rattle.rv64_instr.specs.DefsAndUses.{reads}
 use Rattle.rv64_instr.specs.declared.start.CallTarget.{CallTarget}
 use Rattle.rv64_instr.proofs.Tails.{IsTailRegister, held_tail_use, held_tail_uses, tail_callee, uses_hold, one_more}
@@ -113,6 +113,7 @@ results_read (ImplicitUse r ∷ os) h =
       by_test : (b : Bool) → All IsResult (implicit_uses os) → IsResult r → All IsResult (cond b (implicit_uses os) (r ∷ implicit_uses os))
       by_test true more here = more
       by_test false more here = All-cons IsResult r (implicit_uses os) here more
+results_read (GlobalRegisters ∷ os) h = results_read os h
 results_read (_ ∷ os) h = cc
 
 immediate_on : (op : ImmediateOp) (rd a n : ℕ) → row_leads_back (immediate_row op rd a n) ≡ true → All IsResult (reads (immediate_row op rd a n))
@@ -147,10 +148,6 @@ held_tails_read os h = uses_hold IsResult is_held_tail_use by_use os h where
 tails_read : (os : List Operand) → list_all is_tail_use os ≡ true → All IsResult (implicit_uses os)
 tails_read os h = held_tails_read os (held_tail_uses os h)
 
-held_call_on : (xs outgoing : List ℕ) → row_leads_back (held_call xs outgoing) ≡ true → All IsResult (reads (held_call xs outgoing))
-held_call_on [] outgoing h = none
-held_call_on (r ∷ xs) outgoing h = cc
-
 held_tail_on : (xs : List ℕ) → All IsResult xs → All IsResult (reads (held_tail xs))
 held_tail_on [] h = none
 held_tail_on (r ∷ xs) h = h
@@ -179,7 +176,7 @@ final_by Copy (Def rd ∷ Use rs ∷ rest) h e = move_on rd rs e
 final_by PseudoBr (Block target ∷ rest) h e = cc
 final_by PseudoCall (Symbol name ∷ rest) h e = cc
 final_by PseudoRet os h e = results_read os h
-final_by PseudoCallIndirect os h e = held_call_on (implicit_uses os) (outgoing_words os) e
+final_by PseudoCallIndirect (Use r ∷ rest) h e = cc
 final_by PseudoTail (Symbol name ∷ rest) h e = tails_read rest h
 final_by PseudoTailIndirect (ImplicitUse r ∷ rest) h e =
     let p = and_parts (is_held_tail_register r) (list_all is_held_tail_use rest) h in

@@ -15,7 +15,7 @@ use Rattle.rv64_instr.specs.declared.operand.Operand.TheVariants.{Def, Use, Imm,
 use Rattle.rv64_instr.specs.Arithmetic.{word, taken, load_width, store_width}
 use Rattle.rv64_instr.specs.Row.{Row, Loads, Stores, LoadsSlot, Branches, Calls, Returns, row_of, CallSite}
 use Rattle.rv64_instr.specs.Row.{row_by, move_row, immediate_row, object_row, way_leads_back, Way, Callee}
-use Rattle.rv64_instr.specs.Row.{Back, Tail, Never, implicit_uses, outgoing_words, held_call, held_tail, held_gone}
+use Rattle.rv64_instr.specs.Row.{Back, Tail, Never, implicit_uses, held_tail, held_gone}
 use Rattle.rv64_instr.specs.DefsAndUses.{reads, sets}
 use Rattle.rv64_instr.specs.declared.start.CallTarget.{CallTarget}
 use Rattle.mir_func.specs.declared.block.Block.{Block}
@@ -66,10 +66,6 @@ move_sets : (rd rs : ℕ) → (nat_eq 2 rd || false) ≡ false → SetsNo (move_
 move_sets rd zero h = h
 move_sets rd (suc r) h = h
 
-held_call_sets : (xs outgoing : List ℕ) → SetsNo (held_call xs outgoing)
-held_call_sets [] outgoing = refl
-held_call_sets (r ∷ xs) outgoing = refl
-
 held_tail_sets : (xs : List ℕ) → SetsNo (held_tail xs)
 held_tail_sets [] = refl
 held_tail_sets (r ∷ xs) = refl
@@ -97,7 +93,7 @@ sets_by Copy (Def rd ∷ Use rs ∷ rest) h = move_sets rd rs (defines rd (Use r
 sets_by PseudoBr (ToBlock target ∷ rest) h = refl
 sets_by PseudoCall (Symbol name ∷ rest) h = refl
 sets_by PseudoRet os h = refl
-sets_by PseudoCallIndirect os h = held_call_sets (implicit_uses os) (outgoing_words os)
+sets_by PseudoCallIndirect (Use r ∷ rest) h = refl
 sets_by PseudoTail (Symbol name ∷ rest) h = refl
 sets_by PseudoTailIndirect os h = held_tail_sets (implicit_uses os)
 sets_by NoReturnCall (Symbol name ∷ rest) h = refl

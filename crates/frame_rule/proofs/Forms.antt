@@ -73,8 +73,7 @@ module _ (slots : List ℕ) where
   form_same PseudoBr (Block n ∷ rest) = rest_same rest
   form_same PseudoCall (Symbol name ∷ Mask ∷ rest) = all_same is_argument argument_same rest
   form_same PseudoRet os = all_same is_result result_same os
-  form_same PseudoCallIndirect (ImplicitUse r ∷ Mask ∷ rest) =
-      ap (λ (z : Bool). is_call_register r && z) (all_same is_argument argument_same rest)
+  form_same PseudoCallIndirect (Use r ∷ Mask ∷ rest) = all_same is_argument argument_same rest
   form_same PseudoTail (Symbol name ∷ rest) = all_same is_tail_use tail_same rest
   form_same PseudoTailIndirect (ImplicitUse r ∷ rest) =
       ap (λ (z : Bool). is_held_tail_register r && z) (all_same is_held_tail_use held_tail_same rest)

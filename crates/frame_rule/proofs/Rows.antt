@@ -12,8 +12,8 @@ use Rattle.rv64_instr.specs.declared.operand.Operand.TheVariants.{Def, Use, Impl
 use Rattle.rv64_instr.specs.Arithmetic.{word}
 use Rattle.rv64_instr.specs.Instruction.{Instruction}
 use Rattle.rv64_instr.specs.Row.{Row, Fixes, Moves, Sets, Addresses, Loads, Stores, LoadsSlot, StoresSlot, Branches, Jumps, Calls, Returns, Unfit, row_of}
-use Rattle.rv64_instr.specs.Row.{row_by, Named, Back, CallSite, outgoing_words}
-use Rattle.rv64_instr.specs.Row.{move_row, immediate_row, object_row, implicit_uses, held_call, held_tail, held_gone, Tail, Never}
+use Rattle.rv64_instr.specs.Row.{row_by, Named, Held, Back, CallSite, outgoing_words}
+use Rattle.rv64_instr.specs.Row.{move_row, immediate_row, object_row, implicit_uses, held_tail, held_gone, Tail, Never}
 use Rattle.rv64_instr.specs.DefsAndUses.{reads}
 use Rattle.mir_func.specs.Sound.{IsNotPointer}
 use Rattle.frame_rule.specs.Rule.{slot_offset, renamed_operand, renamed_code}
@@ -67,10 +67,6 @@ module _ (slots : List ℕ) where
   move_same rd zero = refl
   move_same rd (suc r) = refl
 
-  held_call_same : (xs outgoing : List ℕ) → held_call xs (map (slot_offset slots) outgoing) ≡ renamed_row slots (held_call xs outgoing)
-  held_call_same [] outgoing = refl
-  held_call_same (r ∷ xs) outgoing = refl
-
   held_tail_same : (xs : List ℕ) → held_tail xs ≡ renamed_row slots (held_tail xs)
   held_tail_same [] = refl
   held_tail_same (r ∷ xs) = refl
@@ -98,10 +94,10 @@ module _ (slots : List ℕ) where
       let b = words_same rest in
       λ i. Calls (record { callee = Named name; args = a i; outgoing = b i })
   by_op PseudoRet os = ap (λ (rs : List ℕ). Returns (record { way = Back; values = rs })) (uses_same os)
-  by_op PseudoCallIndirect os =
-      let a = uses_same os in
-      let b = words_same os in
-      (λ i. held_call (a i) (b i)) ∙ held_call_same (implicit_uses os) (outgoing_words os)
+  by_op PseudoCallIndirect (Use r ∷ rest) =
+      let a = uses_same rest in
+      let b = words_same rest in
+      λ i. Calls (record { callee = Held r; args = a i; outgoing = b i })
   by_op PseudoTail (Symbol name ∷ rest) = ap (λ (rs : List ℕ). Returns (record { way = Tail (Named name); values = rs })) (uses_same rest)
   by_op PseudoTailIndirect os = ap held_tail (uses_same os) ∙ held_tail_same (implicit_uses os)
   by_op NoReturnCall (Symbol name ∷ rest) = ap (λ (rs : List ℕ). Returns (record { way = Never (Named name); values = rs })) (uses_same rest)
@@ -156,10 +152,6 @@ move_other : (rd rs : ℕ) → IsOther rs → All IsOther (reads (move_row rd rs
 move_other rd zero h = none
 move_other rd (suc r) h = one (suc r) h
 
-held_call_other : (xs outgoing : List ℕ) → All IsOther xs → All IsOther (reads (held_call xs outgoing))
-held_call_other [] outgoing h = none
-held_call_other (r ∷ xs) outgoing h = h
-
 held_tail_other : (xs : List ℕ) → All IsOther xs → All IsOther (reads (held_tail xs))
 held_tail_other [] h = none
 held_tail_other (r ∷ xs) h = h
@@ -191,7 +183,7 @@ reads_by Copy (Def rd ∷ Use rs ∷ rest) h = move_other rd rs (second (Def rd)
 reads_by PseudoBr (Block target ∷ rest) h = none
 reads_by PseudoCall (Symbol name ∷ rest) h = uses_other rest
 reads_by PseudoRet os h = uses_other os
-reads_by PseudoCallIndirect os h = held_call_other (implicit_uses os) (outgoing_words os) (uses_other os)
+reads_by PseudoCallIndirect (Use r ∷ rest) h = All-cons IsOther r (implicit_uses rest) (first (Use r) rest h) (uses_other rest)
 reads_by PseudoTail (Symbol name ∷ rest) h = uses_other rest
 reads_by PseudoTailIndirect os h = held_tail_other (implicit_uses os) (uses_other os)
 reads_by NoReturnCall (Symbol name ∷ rest) h = uses_other rest

@@ -10,7 +10,7 @@ use Rattle.std.specs.Prelude.{length, filter, Option, Some, None}
 use Rattle.std.specs.List.{flat_map, list_any}
 use Rattle.rv64_instr.specs.declared.operand.Operand.{Operand}
 use Rattle.rv64_instr.specs.declared.operand.Operand.TheVariants.{Def, Use, ImplicitDef, ImplicitUse, Imm, Slot, Object as OfObject, Part, Block as OfBlock}
-use Rattle.rv64_instr.specs.declared.operand.Operand.TheVariants.{Symbol, Mask, Outgoing}
+use Rattle.rv64_instr.specs.declared.operand.Operand.TheVariants.{Symbol, Mask, Outgoing, GlobalRegisters}
 use Rattle.rv64_instr.specs.declared.place.Place.{Place}
 use Rattle.rv64_instr.specs.declared.place.Place.TheVariants.{Register, Slot as InSlot, Const}
 use Rattle.rv64_instr.specs.Instruction.{Instruction}
@@ -113,6 +113,7 @@ epilogue f o = added_all (size_of f) (Before (position_of o)) (epilogue_code (si
 abbrev pub renamed_operand : List ℕ → Operand → Operand
 renamed_operand slots (Slot n) = Slot (slot_offset slots n)
 renamed_operand slots (Outgoing n) = Outgoing (slot_offset slots n)
+renamed_operand slots GlobalRegisters = GlobalRegisters
 renamed_operand slots (Def r) = Def r
 renamed_operand slots (Use r) = Use r
 renamed_operand slots (ImplicitDef r) = ImplicitDef r
@@ -126,7 +127,7 @@ renamed_operand slots Mask = Mask
 
 -- an instruction with slot operands replaced by offsets
 abbrev pub renamed_code : List ℕ → Instruction → Instruction
-renamed_code slots i = record { op = i.op; operands = map (renamed_operand slots) i.operands }
+renamed_code slots i = record i { operands = map (renamed_operand slots) i.operands }
 
 -- the location of a DBG_PHI, with a slot replaced by its offset
 abbrev pub renamed_place : List ℕ → Option Place → Option Place

@@ -10,10 +10,10 @@ use Rattle.mir_func.specs.Function.{Function}
 use Rattle.mir_func.specs.Graph.{program_of, block_start, fetch_in, from_block}
 use Rattle.mir_func.specs.Sound.{ids_of}
 use Rattle.sem_mir.specs.Live.{Live}
-use Rattle.pass_liveness.specs.Walk.{live_from}
-use Rattle.pass_liveness.proofs.Facts.{walk_facts}
-use Rattle.pass_liveness.proofs.Paths.{WalkedIn, next_of, walk_is_live, live_is_walked}
-use Rattle.scan_intervals.specs.Liveness.{Decides}
+use Rattle.scan_pass.specs.pass_liveness.Walk.{live_from}
+use Rattle.scan_pass.proofs.pass_liveness.Facts.{walk_facts}
+use Rattle.scan_pass.proofs.pass_liveness.Paths.{WalkedIn, next_of, walk_is_live, live_is_walked}
+use Rattle.scan_pass.specs.scan_intervals.Liveness.{Decides}
 
 or_cases : (x y : Bool) → (x || y) ≡ true → (x ≡ true) ⊎ (y ≡ true)
 or_cases true y e = inl refl

@@ -30,17 +30,17 @@ use Rattle.pass_trait.specs.Rule.{StandsAt}
 use Rattle.pass_trait.specs.Sizes.{greatest_number}
 use Rattle.spill_code.specs.declared.spilling.SlotAssignment.{SlotAssignment}
 use Rattle.spill_code.specs.Rewrite.{renamed_operand}
-use Rattle.spill_proof.specs.Kept.{AreTaken}
-use Rattle.spill_proof.specs.Whole.{spilled_by, where_spilled}
-use Rattle.scan_intervals.specs.declared.interval.LiveInterval.{LiveInterval}
-use Rattle.scan_intervals.specs.Intervals.{touches, AreIntervals}
-use Rattle.scan_intervals.specs.Liveness.{Decides, at_starts}
-use Rattle.scan_intervals.specs.Points.{CodePoint, points_of}
-use Rattle.scan_allocation.specs.Allocation.{stays, assignments_of, given_unless, IsAllocation}
-use Rattle.scan_allocation.specs.Coloring.{now}
-use Rattle.scan_liveness.specs.Registers.{register_of, greatest_operand, greatest_of, greatest_in, greatest_register}
-use Rattle.scan_liveness.proofs.Named.{fetched_item, up_to, live_most, of_most}
-use Rattle.scan_liveness.proofs.Ordered.{are_intervals}
+use Rattle.scan_pass.specs.spill_proof.Kept.{AreTaken}
+use Rattle.scan_pass.specs.spill_proof.Whole.{spilled_by, where_spilled}
+use Rattle.scan_pass.specs.scan_intervals.declared.interval.LiveInterval.{LiveInterval}
+use Rattle.scan_pass.specs.scan_intervals.Intervals.{touches, AreIntervals}
+use Rattle.scan_pass.specs.scan_intervals.Liveness.{Decides, at_starts}
+use Rattle.scan_pass.specs.scan_intervals.Points.{CodePoint, points_of}
+use Rattle.scan_pass.specs.scan_allocation.Allocation.{stays, assignments_of, given_unless, IsAllocation}
+use Rattle.scan_pass.specs.scan_allocation.Coloring.{now}
+use Rattle.scan_allot.specs.scan_liveness.Registers.{register_of, greatest_operand, greatest_of, greatest_in, greatest_register}
+use Rattle.scan_allot.proofs.scan_liveness.Named.{fetched_item, up_to, live_most, of_most}
+use Rattle.scan_allot.proofs.scan_liveness.Ordered.{are_intervals}
 use Rattle.scan_allot.specs.Rewrite.{value_now, place_now, kind_now, items_now, blocks_now, allotted}
 use Rattle.scan_allot.specs.Silence.{SetsAnother, IsSilent}
 use Rattle.scan_allot.specs.Step.{DecidesSilence}
@@ -92,8 +92,8 @@ module _ (f : Function) (forms : AllItems (λ i. HasForm i.kind) f.blocks) (low 
   untouched live decides r le p c = by_test (touches r p) refl where
     most : touches r p ≡ true → r ≤ greatest_register f.blocks
     most = All-contains (λ (q : CodePoint). touches r q ≡ true → r ≤ greatest_register f.blocks) (points_of (at_starts live) f.blocks) p
-        (of_most live (greatest_register f.blocks) r (λ z. omega (arith, le, z))
-        (λ n h. live_most f.blocks (λ q. None) (greatest_register f.blocks) (up_to f.blocks forms) r (λ z. omega (arith, le, z)) (block_start n)
+        (of_most live (greatest_register f.blocks) r le
+        (λ n h. live_most f.blocks (λ q. None) (greatest_register f.blocks) (up_to f.blocks forms) r le (block_start n)
         ((decides n r).0 h)) f.blocks (up_to f.blocks forms)) c
 
     by_test : (z : Bool) → touches r p ≡ z → touches r p ≡ false
@@ -140,7 +140,7 @@ place_same (Some (Slot n)) = refl
 place_same (Some (Const c)) = refl
 
 kind_same : (k : ItemKind) → kind_now nothing (λ r. false) k ≡ k
-kind_same (Code i n) = let e = operands_same i.operands in λ t. Code (record { op = i.op; operands = e t }) n
+kind_same (Code i n) = let e = operands_same i.operands in λ t. Code (record i { operands = e t }) n
 kind_same (Mark v m) = ap (Mark v) (value_same m)
 kind_same (Phi p n) = ap (λ (q : Option Place). Phi q n) (place_same p)
 

@@ -8,8 +8,8 @@ use Rattle.pass_trait.specs.declared.loss.Loss.{Loss}
 use Rattle.pass_trait.specs.Change.{change}
 use Rattle.pass_trait.specs.Sizes.{greatest, greatest_number, item_count, KeepsSizes}
 use Rattle.scan_allot.specs.Laws.{AllottedKeepsSizes}
-use Rattle.scan_intervals.specs.declared.interval.LiveInterval.{LiveInterval}
-use Rattle.scan_liveness.specs.Liveness.{IsLiveness}
+use Rattle.scan_pass.specs.scan_intervals.declared.interval.LiveInterval.{LiveInterval}
+use Rattle.scan_allot.specs.scan_liveness.Liveness.{IsLiveness}
 use Rattle.scan_allot.specs.Rewrite.{allotted}
 use Rattle.scan_settle.specs.Rule.{AreLeft}
 use Rattle.scan_settle.specs.Settled.{IsSettledWithLosses}

@@ -7,13 +7,13 @@ use Rattle.rv64_instr.specs.declared.place.Place.{Place}
 use Rattle.pass_trait.specs.Causes.{scratch_of}
 use Rattle.pass_trait.specs.Change.{Change}
 use Rattle.pass_trait.specs.Steps.{PassStep}
-use Rattle.scan_allocation.proofs.AllocationOrder.{order_real}
-use Rattle.scan_allocation.proofs.Walking.{given_gets, gets_clear}
-use Rattle.scan_allocation.specs.declared.assignment.RegisterAssignment.{RegisterAssignment}
-use Rattle.scan_allocation.specs.Allocation.{stays, assignments_of, given_unless, IsAllocation}
-use Rattle.scan_allocation.specs.Walk.{order_without, given_to}
-use Rattle.scan_intervals.specs.Liveness.{at_starts}
-use Rattle.scan_intervals.specs.Points.{CodePoint, points_of}
+use Rattle.scan_pass.proofs.scan_allocation.AllocationOrder.{order_real}
+use Rattle.scan_pass.proofs.scan_allocation.Walking.{given_gets, gets_clear}
+use Rattle.scan_pass.specs.scan_allocation.declared.assignment.RegisterAssignment.{RegisterAssignment}
+use Rattle.scan_pass.specs.scan_allocation.Allocation.{stays, assignments_of, given_unless, IsAllocation}
+use Rattle.scan_pass.specs.scan_allocation.Walk.{order_without, given_to}
+use Rattle.scan_pass.specs.scan_intervals.Liveness.{at_starts}
+use Rattle.scan_pass.specs.scan_intervals.Points.{CodePoint, points_of}
 use Rattle.scan_allot.specs.Step.{allot_step}
 use Rattle.scan_settle.specs.Step.{settle_step}
 

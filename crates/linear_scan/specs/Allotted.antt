@@ -6,7 +6,7 @@ use Rattle.mir_func.specs.Function.{Function}
 use Rattle.pass_trait.specs.declared.loss.Loss.{Loss}
 use Rattle.pass_trait.specs.Change.{change}
 use Rattle.pass_trait.specs.Order.{IsInOrder}
-use Rattle.scan_allocation.specs.Allocation.{IsAllocation}
+use Rattle.scan_pass.specs.scan_allocation.Allocation.{IsAllocation}
 use Rattle.scan_allot.specs.Laws.{AreSilencedLosses}
 use Rattle.scan_allot.specs.Rewrite.{allotted}
 use Rattle.scan_allot.specs.Step.{DecidesSilence}

@@ -7,12 +7,12 @@ ghost use Rattle.pass_trait.specs.Sizes.{item_count};
 ghost use Rattle.linear_scan.specs.Allotted.{IsAllottedWithLosses};
 
 use mir_func::func::Func;
-use mir_type_facts::blocks::know_forms;
 use pass_trait::loss::Losses;
 use rv64_instr::reg::Reg;
-use scan_allocation::laws::allocation_is_coloring;
 use scan_allot::blocks::allotted_blocks;
 use scan_allot::choice::allocation_of;
+use scan_pass::scan_allocation_crate::laws::allocation_is_coloring;
+use scan_settle::mir_type_facts_crate::blocks::know_forms;
 use std::alloc::{AllocError, Global};
 
 /// Replaces virtual registers by the physical ones that they get, none of the reserve, and returns the losses. After an

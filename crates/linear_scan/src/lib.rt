@@ -4,5 +4,9 @@
 //! be too many slots.
 #![tactic(auto)]
 
+pub use frame_lowering as frame_lowering_crate;
+pub use scan_allot::pass_losses_crate as pass_losses_crate;
+pub use scan_settle::mir_type_facts_crate as mir_type_facts_crate;
+
 pub mod allot;
 pub mod scan;

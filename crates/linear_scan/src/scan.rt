@@ -7,22 +7,22 @@ ghost use Rattle.pass_trait.specs.Sizes.{greatest, greatest_number, item_count};
 ghost use Rattle.scan_pass.specs.Scanned.{scan_steps, IsScanned};
 ghost use Rattle.scan_settle.specs.Settled.{IsSettledWithLosses};
 ghost use Rattle.scan_settle.specs.Rule.{AreLeft};
-ghost use Rattle.scan_pass.proofs.Scanned.{scan_is_one, scan_sees_code_alone};
+ghost use Rattle.scan_pass.proofs.CodeAlone.{scan_is_one, scan_sees_code_alone};
 ghost use Rattle.std.proofs.Common.{rules};
 
 use crate::allot::allot;
 use frame_lowering::physical::is_physical;
 use mir_func::func::Func;
 use mir_substitution::substitutions::Substitutions;
-use mir_type_facts::blocks::know_forms;
 use pass_trait::loss::Losses;
 use pass_trait::pass::Pass;
 use rv64_instr::reg::{Reg, Registers};
 use scan_allot::laws::allotted_keeps_sizes;
-use scan_intervals::interval::LiveIntervals;
-use scan_liveness::liveness::liveness_of;
-use scan_liveness::registers::greatest_register;
+use scan_allot::scan_liveness_crate::liveness::liveness_of;
+use scan_allot::scan_liveness_crate::registers::greatest_register;
 use scan_pass::laws::{scanned_follows, scanned_keeps_sizes, scanned_keeps_steps};
+use scan_pass::scan_intervals_crate::interval::LiveIntervals;
+use scan_settle::mir_type_facts_crate::blocks::know_forms;
 use scan_settle::settle::settle;
 use std::alloc::{AllocError, Global};
 

@@ -13,11 +13,12 @@ use Rattle.rv64_instr.specs.declared.op.ImmediateOp.{ImmediateOp}
 use Rattle.rv64_instr.specs.declared.op.ImmediateOp.TheVariants.{Addi}
 use Rattle.rv64_instr.specs.declared.operand.Operand.{Operand}
 use Rattle.rv64_instr.specs.declared.operand.Operand.TheVariants.{Def, Use, ImplicitUse, Imm, Slot, Object, Block as BlockOperand, Symbol, Mask}
+use Rattle.rv64_instr.specs.declared.operand.Operand.TheVariants.{GlobalRegisters}
 use Rattle.rv64_instr.specs.declared.place.Place.{Place}
 use Rattle.rv64_instr.specs.Arithmetic.{word}
 use Rattle.rv64_instr.specs.Form.{has_form, is_result}
-use Rattle.rv64_instr.specs.Row.{row_by, move_row, immediate_row, object_row, implicit_uses, outgoing_words, held_call, held_tail, held_gone}
-use Rattle.rv64_instr.proofs.Tails.{tails_low, held_low, arguments_low, held_arguments_low, last_arguments, held_gone_calls}
+use Rattle.rv64_instr.specs.Row.{row_by, move_row, immediate_row, object_row, implicit_uses, held_tail, held_gone}
+use Rattle.rv64_instr.proofs.Tails.{tails_low, held_low, arguments_low, held_gone_low, last_arguments}
 use Rattle.mir_func.specs.declared.block.Block.{Block}
 use Rattle.mir_func.specs.declared.debug_substitution.OperandPair.{OperandPair}
 use Rattle.mir_func.specs.declared.item.Item.{Item}
@@ -52,19 +53,16 @@ results_low (ImplicitUse r ∷ rest) e =
       by_test : (b : Bool) → r < 32 → All (λ r. r < 32) (implicit_uses rest) → All (λ r. r < 32) (cond b (implicit_uses rest) (r ∷ implicit_uses rest))
       by_test true here more = more
       by_test false here more = All-cons (λ (q : ℕ). q < 32) r (implicit_uses rest) here more
+results_low (GlobalRegisters ∷ rest) e = results_low rest e
 results_low (_ ∷ rest) e = cc
-
-held_call_plain : (xs outgoing : List ℕ) → ResultsArePhysical (held_call xs outgoing)
-held_call_plain [] outgoing = tt
-held_call_plain (r ∷ xs) outgoing = tt
 
 held_tail_low : (xs : List ℕ) → All (λ r. r < 32) xs → ResultsArePhysical (held_tail xs)
 held_tail_low [] h = tt
 held_tail_low (r ∷ xs) h = h
 
-held_gone_low : (xs : List ℕ) → All (λ r. r < 32) xs → ResultsArePhysical (held_gone xs)
-held_gone_low [] h = tt
-held_gone_low (r ∷ xs) h = h
+held_gone_results : (xs : List ℕ) → All (λ r. r < 32) xs → ResultsArePhysical (held_gone xs)
+held_gone_results [] h = tt
+held_gone_results (r ∷ xs) h = h
 
 immediate_plain : (op : ImmediateOp) (rd a n : ℕ) → ResultsArePhysical (immediate_row op rd a n)
 immediate_plain Addi rd zero n = tt
@@ -82,14 +80,15 @@ move_plain rd (suc r) = tt
 
 by_op : (op : Op) (os : List Operand) → IsTrue (has_form op os) → ResultsArePhysical (row_by op os)
 by_op PseudoRet os h = results_low os h
-by_op PseudoCallIndirect os h = held_call_plain (implicit_uses os) (outgoing_words os)
+by_op PseudoCallIndirect (Use r ∷ rest) h = tt
+by_op PseudoCallIndirect _ h = tt
 by_op PseudoTail (Symbol name ∷ rest) h = tails_low rest h
 by_op PseudoTailIndirect (ImplicitUse r ∷ rest) h = held_tail_low (implicit_uses (ImplicitUse r ∷ rest)) (held_low r rest h)
 by_op PseudoTailIndirect _ h = absurd cc
 by_op NoReturnCall (Symbol name ∷ Mask ∷ rest) h = arguments_low rest (last_arguments rest h)
 by_op NoReturnCall _ h = absurd cc
 by_op NoReturnCallIndirect (ImplicitUse r ∷ Mask ∷ rest) h =
-    held_gone_low (implicit_uses (ImplicitUse r ∷ Mask ∷ rest)) (held_arguments_low r rest (held_gone_calls (ImplicitUse r ∷ Mask ∷ rest) h))
+    held_gone_results (implicit_uses (ImplicitUse r ∷ Mask ∷ rest)) (held_gone_low r rest h)
 by_op NoReturnCallIndirect _ h = absurd cc
 by_op (Registers op) (Def rd ∷ Use a ∷ Use b ∷ rest) h = tt
 by_op (Immediate op) (Def rd ∷ Use a ∷ Imm i ∷ rest) h = immediate_plain op rd a (word i)

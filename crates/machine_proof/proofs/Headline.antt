@@ -46,7 +46,7 @@ use Rattle.rv64_instr.specs.declared.start.CallTarget.{CallTarget}
 use Rattle.machine_proof.proofs.Stages.{falls_to, one_machine, IsCode, as_code, g, AlongWords, Counts, Stage, level, second, late, late_second, dead, MetAt}
 use Rattle.machine_proof.proofs.Stages.{IsCarried, IsQuiet, falls_on, long_branch}
 use Rattle.machine_proof.proofs.Telling.{code_tells, held_by}
-use Rattle.machine_proof.specs.Lists.{GiveWanted, IsPointAt, at_code, at_jump}
+use Rattle.machine_proof.specs.Lists.{GiveSitting, IsPointAt, at_code, at_jump}
 use Rattle.machine_steps_proof.proofs.Known.{known_step}
 use Rattle.sem_simulation.proofs.Turns.{same_code}
 use Rattle.machine_steps_proof.specs.Pointer.{IsPointerAt}
@@ -124,7 +124,7 @@ one_line a b e = cc
 module _ (source : Function) (f : FramedFunction) (resolve fresolve : OperandPair → Option OperandPair) (image : Image) (framed : IsFramed f)
     (from : ComesFrom (program_of true source.blocks resolve) f) (beside : RunsBeside source f resolve fresolve) (laid : IsLaidAt f image)
     (lists : VarId → (address : ℕ) → Place → Type 0)
-    (wanted : GiveWanted (framed_program f.blocks fresolve) (IsPointAt f laid.address) lists) (s0 : State) (start : StartsAt source s0)
+    (wanted : GiveSitting (framed_program f.blocks fresolve) (IsPointAt f laid.address) lists) (s0 : State) (start : StartsAt source s0)
     (same_objects : f.objects ≡ source.objects) where
   abbrev S : Program
   S = program_of true source.blocks resolve

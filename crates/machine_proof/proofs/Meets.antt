@@ -36,7 +36,7 @@ use Rattle.machine_proof.proofs.Sources.{IsWritten, returns_alike, faults_alike,
 use Rattle.machine_proof.proofs.Late.{filled, level_filled, is_filled}
 use Rattle.machine_proof.proofs.Stages.{one_machine, IsCode, as_code, AlongWords, IsCarried, Stage, level, second, dead, MetAt, late_step, long_branch}
 use Rattle.machine_proof.proofs.Telling.{known_along, known_filled, Held, held_by}
-use Rattle.machine_proof.specs.Lists.{GiveWanted, IsPointAt, at_code, at_jump}
+use Rattle.machine_proof.specs.Lists.{GiveSitting, IsPointAt, at_code, at_jump}
 use Rattle.machine_steps_proof.proofs.Known.{Known, known_start}
 use Rattle.machine_steps_proof.specs.Beside.{Beside}
 use Rattle.machine_steps_proof.specs.Pointer.{IsPointerAt}
@@ -63,7 +63,7 @@ one_result v w e = cc
 module _ (source : Function) (f : FramedFunction) (resolve fresolve : OperandPair → Option OperandPair) (image : Image) (framed : IsFramed f)
     (from : ComesFrom (program_of true source.blocks resolve) f) (beside : RunsBeside source f resolve fresolve) (laid : IsLaidAt f image)
     (lists : VarId → (address : ℕ) → Place → Type 0)
-    (wanted : GiveWanted (framed_program f.blocks fresolve) (IsPointAt f laid.address) lists) (s0 : State) (start : StartsAt source s0)
+    (wanted : GiveSitting (framed_program f.blocks fresolve) (IsPointAt f laid.address) lists) (s0 : State) (start : StartsAt source s0)
     (same_objects : f.objects ≡ source.objects) where
   abbrev pub S : Program
   S = program_of true source.blocks resolve

@@ -28,8 +28,8 @@ use Rattle.sem_mir.specs.Step.{Breaks, act, does, are_written, is_fault, address
 use Rattle.sem_mir.specs.Step.{numbered, with_core, part_of, mark_value, place_value, do_item, moved, step, read, called_at}
 use Rattle.sem_mir.specs.ValueId.{Token, register_token, Path}
 use Rattle.sem_mir.proofs.Outcomes.{on_either, step_item, step_end}
-use Rattle.sem_value_ids.proofs.Along.{good_names}
-use Rattle.sem_value_ids.proofs.Naming.{Holds}
+use Rattle.machine_steps_proof.proofs.sem_value_ids.Along.{good_names}
+use Rattle.machine_steps_proof.proofs.sem_value_ids.Naming.{Holds}
 use Rattle.sem_simulation.specs.Words.{SameCode}
 use Rattle.sem_machine.specs.Image.{Image}
 use Rattle.sem_machine.specs.Machine.{Machine, place_content}
@@ -40,7 +40,7 @@ use Rattle.machine_steps_proof.specs.Steps.{framed_run, Level}
 use Rattle.machine_steps_proof.proofs.Known.{Known, known_step}
 use Rattle.machine_steps_proof.proofs.Places.{places_hold}
 use Rattle.machine_steps_proof.proofs.Slots.{slot_offset}
-use Rattle.machine_proof.specs.Lists.{GiveWanted, IsPointAt}
+use Rattle.machine_proof.specs.Lists.{GiveSitting, IsPointAt}
 use Rattle.machine_proof.specs.Runs.{AssignsNothing}
 use Rattle.machine_proof.proofs.Late.{filled, level_filled}
 
@@ -188,7 +188,7 @@ module _ (f : FramedFunction) (framed : IsFramed f) (resolve : OperandPair → O
 
   -- ---- what lists give
 
-  module _ (lists : VarId → (address : ℕ) → Place → Type 0) (wanted : GiveWanted G (IsPointAt f laid.address) lists) where
+  module _ (lists : VarId → (address : ℕ) → Place → Type 0) (sitting : GiveSitting G (IsPointAt f laid.address) lists) where
     -- each place that a list gives a part of a variable at the machine's counter holds the value of its newest assignment
     abbrev pub Held : Machine → State → Type 0
     Held m s = (v : VarId) (place : Place) → lists v m.counter place → Tells s v (part_value v (place_content place m))
@@ -197,8 +197,7 @@ module _ (f : FramedFunction) (framed : IsFramed f) (resolve : OperandPair → O
     pub held_by : (c : State) (d : Core) (m : Machine) (s : State) → Known G (block_start 0) c → Telling c s → SameCode d c.core → Beside f d m →
         IsPointerAt f c.pos d → IsPointAt f laid.address m.counter c.pos → Held m s
     held_by c d m s k told same bk pointer at v place given =
-        let w = wanted v m.counter place given c.pos at in
-        let sits = w.sits.same k.count k.tokens k.path in
+        let sits = (sitting v m.counter place given c.pos at).same k.count k.tokens k.path in
         let names = good_names k.value k.tokens c.core k.good in
         let held = places_hold f framed resolve k.count c.pos k.tokens k.path k.value c.core d names same m bk pointer place sits.0 sits.2 in
         told v (part_value v (k.value sits.0)) (names.variables v sits.0 sits.1) ∙ ap (λ (x : ℕ). Some (part_value v x)) (sym held)

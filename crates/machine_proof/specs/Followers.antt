@@ -13,7 +13,7 @@ use Rattle.sem_machine.specs.Headline.{StartsAt, Headline}
 use Rattle.sem_machine.specs.Image.{Image}
 use Rattle.frame_rule.specs.Rule.{framed_of}
 use Rattle.machine_steps_proof.specs.Laid.{IsLaidAt}
-use Rattle.machine_proof.specs.Lists.{GiveWanted, IsPointAt}
+use Rattle.machine_proof.specs.Lists.{GiveSitting, IsPointAt}
 use Rattle.machine_proof.specs.Runs.{GivesBackKept, start_beside}
 
 -- f simulates the source, which is as it was read, and has its stack objects. f is sound, and all instructions of both have the
@@ -26,10 +26,10 @@ pub record IsFollower (source f : Function) (resolve fresolve : OperandPair → 
   pub objects : f.objects ≡ source.objects
   pub follows : Follows source.objects source.blocks f.blocks resolve fresolve
 
--- If lists name only required places, and the function with its frame preserves the registers `KEPT`, the image that a simulating
+-- If lists name only places that have the value, and the function with its frame preserves the registers `KEPT`, the image that a simulating
 -- function is laid in with its frame satisfies the source's `Headline`.
 abbrev pub FollowersMeetTheHeadline : (lists : VarId → (address : ℕ) → Place → Type 0) → Type 0
 FollowersMeetTheHeadline lists = (source f : Function) (resolve fresolve : OperandPair → Option OperandPair) (image : Image) →
     IsFollower source f resolve fresolve → IsFramed (framed_of f) →
     ((s : State) → StartsAt source s → GivesBackKept (framed_program (framed_of f).blocks fresolve) (start_beside s)) → (laid : IsLaidAt (framed_of f) image) →
-    GiveWanted (framed_program (framed_of f).blocks fresolve) (IsPointAt (framed_of f) laid.address) lists → Headline source resolve image lists
+    GiveSitting (framed_program (framed_of f).blocks fresolve) (IsPointAt (framed_of f) laid.address) lists → Headline source resolve image lists

@@ -17,7 +17,7 @@ use Rattle.emit_code.specs.Rule.{Layout}
 use Rattle.frame_rule.specs.Rule.{reach_of, framed_of}
 use Rattle.machine_proof.specs.Followers.{IsFollower}
 use Rattle.machine_steps_proof.specs.Images.{IsImageOf}
-use Rattle.machine_proof.specs.Lists.{GiveWanted}
+use Rattle.machine_proof.specs.Lists.{GiveSitting}
 use Rattle.machine_proof.specs.Entries.{IsEntryAt}
 
 -- an image of the function's layout with its frame
@@ -36,11 +36,11 @@ pub record IsImageOfFunction (f : Function) (image : Image) : Type 0 where
 abbrev pub ImagesMeetTheHeadline : (lists : VarId → (address : ℕ) → Place → Type 0) → Type 0
 ImagesMeetTheHeadline lists = (source f : Function) (resolve fresolve : OperandPair → Option OperandPair) (image : Image) →
     IsFollower source f resolve fresolve → AllItems (λ i. HasPhysical i.kind) f.blocks → reach_of f ≤ MAX_FRAME → (is : IsImageOfFunction f image) →
-    GiveWanted (framed_program (framed_of f).blocks fresolve) (IsEntryAt is.layout) lists → Headline source resolve image lists
+    GiveSitting (framed_program (framed_of f).blocks fresolve) (IsEntryAt is.layout) lists → Headline source resolve image lists
 
 -- So does the image of a source as it was read, with its frame and its layout.
 abbrev pub SourcesMeetTheHeadline : (lists : VarId → (address : ℕ) → Place → Type 0) → Type 0
 SourcesMeetTheHeadline lists = (source : Function) (resolve : OperandPair → Option OperandPair) (image : Image) → IsRead source.blocks →
     AllItems (λ i. HasForm i.kind) source.blocks → AllItems (λ i. HasPhysical i.kind) source.blocks → IsSound source → reach_of source ≤ MAX_FRAME →
-    (is : IsImageOfFunction source image) → GiveWanted (framed_program (framed_of source).blocks resolve) (IsEntryAt is.layout) lists →
+    (is : IsImageOfFunction source image) → GiveSitting (framed_program (framed_of source).blocks resolve) (IsEntryAt is.layout) lists →
     Headline source resolve image lists

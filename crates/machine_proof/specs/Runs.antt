@@ -25,7 +25,7 @@ use Rattle.sem_simulation.specs.Words.{RunsByWords}
 use Rattle.sem_machine.specs.Image.{Image}
 use Rattle.sem_machine.specs.Headline.{StartsAt, KEPT, Headline}
 use Rattle.machine_steps_proof.specs.Laid.{fetched, IsLaidAt}
-use Rattle.machine_proof.specs.Lists.{GiveWanted, IsPointAt}
+use Rattle.machine_proof.specs.Lists.{GiveSitting, IsPointAt}
 
 -- at this position the source never stops on a frame fault, if all physical registers are written
 abbrev pub NeverFaults : Program → Pos → Type 0
@@ -90,8 +90,8 @@ pub record RunsBeside (source : Function) (f : FramedFunction) (resolve fresolve
       RunsByWords (program_of true source.blocks resolve) (framed_program f.blocks fresolve) s (start_beside s)
   pub keeps : (s : State) → StartsAt source s → GivesBackKept (framed_program f.blocks fresolve) (start_beside s)
 
--- If lists name only required places, the image that such a function is laid in satisfies `Headline`.
+-- If lists name only places that have the value, the image that such a function is laid in satisfies `Headline`.
 abbrev pub LaidCodeMeetsTheHeadline : (lists : VarId → (address : ℕ) → Place → Type 0) → Type 0
 LaidCodeMeetsTheHeadline lists = (source : Function) (f : FramedFunction) (resolve fresolve : OperandPair → Option OperandPair) (image : Image) →
     IsFramed f → f.objects ≡ source.objects → ComesFrom (program_of true source.blocks resolve) f → RunsBeside source f resolve fresolve →
-    (laid : IsLaidAt f image) → GiveWanted (framed_program f.blocks fresolve) (IsPointAt f laid.address) lists → Headline source resolve image lists
+    (laid : IsLaidAt f image) → GiveSitting (framed_program f.blocks fresolve) (IsPointAt f laid.address) lists → Headline source resolve image lists

@@ -13,7 +13,7 @@ pub fn images_meet_the_headline<L: LocationLists>()
 {}
 
 /// The image of each source as read, with its frame, which with the arguments on the stack reaches at most 2,032 bytes
-/// above x2, and its layout, satisfies its `Headline`, if lists name only required places.
+/// above x2, and its layout, satisfies its `Headline`, if lists name only places with the value.
 pub fn sources_meet_the_headline<L: LocationLists>()
     ensures { SourcesMeetTheHeadline L.gives }
 {}

@@ -5,8 +5,8 @@
 //! - `frame_laws`: What the machine's run requires of the origins of items in a function with its frame.
 //!
 //! - `headline_laws`: The statement `Headline` with location lists, for every function that simulates a source, with
-//!   its frame and its layout: the machine simulates the source, and lists that name only required places name values
-//!   of the newest assignments.
+//!   its frame and its layout: the machine simulates the source, and lists that name only places with the value name
+//!   values of the newest assignments.
 #![tactic(auto)]
 
 pub mod frame_laws;

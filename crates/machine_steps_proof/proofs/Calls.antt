@@ -95,7 +95,7 @@ not_owned false x y e g = refl
 not_owned true x y e g = λ i. e i || g i
 
 -- the bytes of a slot that isn't passed are in no word that is
-apart_words : (outgoing : List ℕ) (o j : ℕ) → All (λ n. n % 8 ≡ 0) outgoing → list_any (nat_eq o) outgoing ≡ false → o % 8 ≡ 0 → j < 8 →
+pub apart_words : (outgoing : List ℕ) (o j : ℕ) → All (λ n. n % 8 ≡ 0) outgoing → list_any (nat_eq o) outgoing ≡ false → o % 8 ≡ 0 → j < 8 →
     in_words outgoing (o + j) ≡ false
 apart_words [] o j h out at lt = refl
 apart_words (n ∷ ns) o j h out at lt =

@@ -296,6 +296,7 @@ module _ (l : Layout) (image : Image) (has : HasAllWords l) (is : IsImageOf l im
         ap (λ (x : Op). lowered (offset_to l (address_in l p) (row_exit (row_of c))) (object_offset l.framed (object_named (row_of c))) (record {
           op = x;
           operands = c.operands;
+          volatile = c.volatile;
         })) ret.0 in
         let t : drop (address_in l p) image.text ≡ to_le_bytes w32 (word_of return_op) ++ st.more =
         text OneWord f ∙ ap (λ (z : Option MachineOp). bytes (word_if z) ++ st.more) o in

@@ -18,3 +18,4 @@ pub mod Linked
 pub mod Listed
 pub mod Placed
 pub mod Laid
+pub use Rattle.sem_value_ids.proofs as sem_value_ids

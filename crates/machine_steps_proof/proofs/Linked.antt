@@ -12,9 +12,9 @@ use Rattle.rv64_instr.specs.declared.symbol.LinkedAddress.{LinkedAddress}
 use Rattle.rv64_instr.specs.declared.symbol.Half.{Half}
 use Rattle.rv64_instr.specs.Arithmetic.{word}
 use Rattle.rv64_instr.specs.LocationEffects.{part_named}
-use Rattle.rv64_instr.specs.Row.{Row, row_by, row_of, implicit_uses, outgoing_words}
+use Rattle.rv64_instr.specs.Row.{Row, row_by, row_of, implicit_uses}
 use Rattle.rv64_instr.specs.View.{class_of}
-use Rattle.rv64_instr.proofs.Halves.{number_part, object_part, move_part, held_call_part, held_tail_part, held_gone_part}
+use Rattle.rv64_instr.proofs.Halves.{number_part, object_part, move_part, held_tail_part, held_gone_part}
 use Rattle.rv64_word.specs.Linked.{linked_by, linked_word}
 use Rattle.mir_func.specs.Function.{FramedFunction}
 use Rattle.emit_code.specs.Listed.{by_pointer, listed}
@@ -41,7 +41,7 @@ no_part Copy (Def rd) (Use rs) i rest h = move_part rd rs
 no_part PseudoBr (Block n) b i rest h = refl
 no_part PseudoCall (Symbol name) b i rest h = refl
 no_part PseudoRet a b i rest h = refl
-no_part PseudoCallIndirect a b i rest h = held_call_part (implicit_uses (a ∷ b ∷ Imm i ∷ rest)) (outgoing_words (a ∷ b ∷ Imm i ∷ rest))
+no_part PseudoCallIndirect (Use r) b i rest h = refl
 no_part PseudoTail (Symbol name) b i rest h = refl
 no_part PseudoTailIndirect a b i rest h = held_tail_part (implicit_uses (a ∷ b ∷ Imm i ∷ rest))
 no_part NoReturnCall (Symbol name) b i rest h = refl

@@ -12,12 +12,12 @@ use Rattle.rv64_instr.specs.declared.op.ImmediateOp.{ImmediateOp}
 use Rattle.rv64_instr.specs.declared.op.ImmediateOp.TheVariants.{Addi}
 use Rattle.rv64_instr.specs.declared.operand.Operand.{Operand}
 use Rattle.rv64_instr.specs.declared.operand.Operand.TheVariants.{Def, Use, ImplicitDef, ImplicitUse, Imm, Slot, Object, Part, Block as OfBlock, Symbol}
-use Rattle.rv64_instr.specs.declared.operand.Operand.TheVariants.{Mask, Outgoing}
+use Rattle.rv64_instr.specs.declared.operand.Operand.TheVariants.{Mask, Outgoing, GlobalRegisters}
 use Rattle.rv64_instr.specs.Arithmetic.{word}
 use Rattle.rv64_instr.specs.Instruction.{Instruction}
 use Rattle.rv64_instr.specs.Row.{Row, Branches, Calls, Returns, Unfit, row_of}
 use Rattle.rv64_instr.specs.Row.{row_by, implicit_uses, outgoing_words, move_row, immediate_row, object_row, CallSite as Call, Callee, Named, Ending}
-use Rattle.rv64_instr.specs.Row.{Back, held_call, held_tail, held_gone, tail_row, gone_row, Way, Tail, Never, Held}
+use Rattle.rv64_instr.specs.Row.{Back, held_tail, held_gone, tail_row, gone_row, Way, Tail, Never, Held}
 use Rattle.rv64_instr.specs.LocationEffects.{part_named}
 use Rattle.rv64_instr.specs.Inverse.{inverse_op, inverse}
 use Rattle.mir_func.specs.Function.{FramedFunction}
@@ -51,7 +51,9 @@ uses_listed f (Symbol r ∷ Object n ∷ Imm i ∷ rest) = refl
 uses_listed f (Mask ∷ Slot n ∷ Imm i ∷ rest) = refl
 uses_listed f (Mask ∷ Object n ∷ Imm i ∷ rest) = refl
 uses_listed f (Outgoing r ∷ Slot n ∷ Imm i ∷ rest) = refl
+uses_listed f (GlobalRegisters ∷ Slot n ∷ Imm i ∷ rest) = refl
 uses_listed f (Outgoing r ∷ Object n ∷ Imm i ∷ rest) = refl
+uses_listed f (GlobalRegisters ∷ Object n ∷ Imm i ∷ rest) = refl
 uses_listed f _ = refl
 
 own_word : Operand → List ℕ
@@ -161,10 +163,6 @@ way_of (Returns ending) = ending.way
 way_of _ = Back
 
 -- a return's opcode
-held_call_tag : (xs outgoing : List ℕ) (n : ℕ) → tag (held_call xs outgoing) ≡ suc n → suc n ≡ 3
-held_call_tag [] outgoing n e = absurd (omega (arith, e))
-held_call_tag (r ∷ xs) outgoing n e = sym e
-
 held_tail_back : (xs : List ℕ) (ending : Ending Callee) → held_tail xs ≡ Returns ending → ending.way ≡ Back → ⊥
 held_tail_back [] ending e back = cc
 held_tail_back (r ∷ xs) ending e back = let bad : Tail (Held r) ≡ Back = ap way_of e ∙ back in cc
@@ -190,7 +188,7 @@ returns_op (Store op) (Use rs ∷ Object n ∷ Imm i ∷ rest) ending e back = c
 returns_op Copy (Def rd ∷ Use rs ∷ rest) ending e back = absurd (zero_one (tag_move rd rs) (ap tag e))
 returns_op PseudoBr (OfBlock target ∷ rest) ending e back = cc
 returns_op PseudoCall (Symbol name ∷ rest) ending e back = cc
-returns_op PseudoCallIndirect os ending e back = absurd (let three = held_call_tag (implicit_uses os) (outgoing_words os) 0 (ap tag e) in omega (arith, three))
+returns_op PseudoCallIndirect (Use r ∷ rest) ending e back = cc
 returns_op PseudoTail (Symbol name ∷ rest) ending e back = absurd (let bad : Tail (Named name) ≡ Back = ap way_of e ∙ back in cc)
 returns_op PseudoTailIndirect os ending e back = absurd (held_tail_back (implicit_uses os) ending e back)
 returns_op NoReturnCall (Symbol name ∷ rest) ending e back = absurd (let bad : Never (Named name) ≡ Back = ap way_of e ∙ back in cc)
@@ -231,7 +229,7 @@ branch_inverted (Store op) (Use rs ∷ Object m ∷ Imm i ∷ rest) o a b n e = 
 branch_inverted Copy (Def rd ∷ Use rs ∷ rest) o a b n e = absurd (zero_one (tag_move rd rs) (ap tag e))
 branch_inverted PseudoBr (OfBlock target ∷ rest) o a b n e = cc
 branch_inverted PseudoCall (Symbol name ∷ rest) o a b n e = cc
-branch_inverted PseudoCallIndirect os o a b n e = absurd (let three = held_call_tag (implicit_uses os) (outgoing_words os) 1 (ap tag e) in omega (arith, three))
+branch_inverted PseudoCallIndirect (Use r ∷ rest) o a b n e = cc
 branch_inverted PseudoTail (Symbol name ∷ rest) o a b n e = cc
 branch_inverted PseudoTailIndirect os o a b n e = absurd (held_tail_tag (implicit_uses os) (ap tag e))
 branch_inverted NoReturnCall (Symbol name ∷ rest) o a b n e = cc
@@ -251,7 +249,11 @@ no_some : (call : Call) → call_of (Calls call) ≡ None → ⊥
 no_some call e = cc
 
 pub held_listed : (f : FramedFunction) (os : List Operand) → row_by PseudoCallIndirect (by_pointer f os) ≡ row_by PseudoCallIndirect os
-held_listed f os = let uses = uses_listed f os in let words = words_listed f os in λ i. held_call (uses i) (words i)
+held_listed f (Use r ∷ Slot m ∷ Imm i ∷ rest) = refl
+held_listed f (Use r ∷ Object m ∷ Imm i ∷ rest) = refl
+held_listed f (x ∷ Slot m ∷ Imm i ∷ rest) = refl
+held_listed f (x ∷ Object m ∷ Imm i ∷ rest) = refl
+held_listed f _ = refl
 
 -- code that is none of a call is listed as none
 pub no_call_listed : (f : FramedFunction) (c : Instruction) → (row_of c ≡ Unfit → ⊥) → call_of (row_of c) ≡ None → call_of (row_of (listed f c)) ≡ None
@@ -293,10 +295,6 @@ left_move : (rd rs : ℕ) → left_by (move_row rd rs) ≡ None
 left_move rd zero = refl
 left_move rd (suc r) = refl
 
-left_held_call : (xs outgoing : List ℕ) → left_by (held_call xs outgoing) ≡ None
-left_held_call [] outgoing = refl
-left_held_call (r ∷ xs) outgoing = refl
-
 -- an opcode of no ending but a return
 abbrev IsStaying : Op → Type 0
 IsStaying PseudoTail = ⊥
@@ -321,7 +319,7 @@ no_left Copy is (Def rd ∷ Use rs ∷ rest) = left_move rd rs
 no_left PseudoBr is (OfBlock target ∷ rest) = refl
 no_left PseudoCall is (Symbol name ∷ rest) = refl
 no_left PseudoRet is os = refl
-no_left PseudoCallIndirect is os = left_held_call (implicit_uses os) (outgoing_words os)
+no_left PseudoCallIndirect is (Use r ∷ rest) = refl
 no_left PseudoTail is os = absurd is
 no_left PseudoTailIndirect is os = absurd is
 no_left NoReturnCall is os = absurd is

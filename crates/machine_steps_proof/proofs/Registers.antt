@@ -9,10 +9,11 @@ use Rattle.rv64_instr.specs.declared.op.ImmediateOp.{ImmediateOp}
 use Rattle.rv64_instr.specs.declared.op.ImmediateOp.TheVariants.{Addi}
 use Rattle.rv64_instr.specs.declared.operand.Operand.{Operand}
 use Rattle.rv64_instr.specs.declared.operand.Operand.TheVariants.{Def, Use, ImplicitDef, ImplicitUse, Imm, Slot, Object, Part, Block, Symbol, Mask, Outgoing}
+use Rattle.rv64_instr.specs.declared.operand.Operand.TheVariants.{GlobalRegisters}
 use Rattle.rv64_instr.specs.Arithmetic.{word}
 use Rattle.rv64_instr.specs.Instruction.{Instruction}
 use Rattle.rv64_instr.specs.Row.{Row, Fixes, Moves, Sets, Addresses, Loads, LoadsSlot, row_of}
-use Rattle.rv64_instr.specs.Row.{row_by, move_row, immediate_row, object_row, implicit_uses, outgoing_words, held_call, held_tail, held_gone}
+use Rattle.rv64_instr.specs.Row.{row_by, move_row, immediate_row, object_row, implicit_uses, held_tail, held_gone}
 use Rattle.rv64_instr.specs.DefsAndUses.{reads}
 use Rattle.mir_func.specs.SoundFrame.{IsPhysical}
 use Rattle.mir_func.specs.Sound.{IsNotPointer}
@@ -50,6 +51,7 @@ uses_physical (Block n ∷ rest) h = uses_physical rest (All-tail IsPhysical (Bl
 uses_physical (Symbol n ∷ rest) h = uses_physical rest (All-tail IsPhysical (Symbol n) rest h)
 uses_physical (Mask ∷ rest) h = uses_physical rest (All-tail IsPhysical Mask rest h)
 uses_physical (Outgoing n ∷ rest) h = uses_physical rest (All-tail IsPhysical (Outgoing n) rest h)
+uses_physical (GlobalRegisters ∷ rest) h = uses_physical rest (All-tail IsPhysical GlobalRegisters rest h)
 
 immediate_physical : (op : ImmediateOp) (rd a n : ℕ) → a < 32 → All Low (reads (immediate_row op rd a n))
 immediate_physical Addi rd zero n h = none
@@ -70,10 +72,6 @@ second x y rest h = first y rest (All-tail IsPhysical x (y ∷ rest) h)
 
 third : (x y z : Operand) (rest : List Operand) → All IsPhysical (x ∷ y ∷ z ∷ rest) → IsPhysical z
 third x y z rest h = second y z rest (All-tail IsPhysical x (y ∷ z ∷ rest) h)
-
-held_call_physical : (xs outgoing : List ℕ) → All Low xs → All Low (reads (held_call xs outgoing))
-held_call_physical [] outgoing h = none
-held_call_physical (r ∷ xs) outgoing h = h
 
 held_tail_physical : (xs : List ℕ) → All Low xs → All Low (reads (held_tail xs))
 held_tail_physical [] h = none
@@ -107,7 +105,8 @@ reads_by Copy (Def rd ∷ Use rs ∷ rest) h = move_physical rd rs (second (Def 
 reads_by PseudoBr (Block target ∷ rest) h = none
 reads_by PseudoCall (Symbol name ∷ rest) h = uses_physical rest (All-tail IsPhysical (Symbol name) rest h)
 reads_by PseudoRet os h = uses_physical os h
-reads_by PseudoCallIndirect os h = held_call_physical (implicit_uses os) (outgoing_words os) (uses_physical os h)
+reads_by PseudoCallIndirect (Use r ∷ rest) h =
+    All-cons Low r (implicit_uses rest) (first (Use r) rest h) (uses_physical rest (All-tail IsPhysical (Use r) rest h))
 reads_by PseudoTail (Symbol name ∷ rest) h = uses_physical rest (All-tail IsPhysical (Symbol name) rest h)
 reads_by PseudoTailIndirect os h = held_tail_physical (implicit_uses os) (uses_physical os h)
 reads_by NoReturnCall (Symbol name ∷ rest) h = uses_physical rest (All-tail IsPhysical (Symbol name) rest h)
@@ -145,10 +144,6 @@ move_leaves : (rd rs : ℕ) → (rd ≡ 2 → ⊥) → LeavesTwo (move_row rd rs
 move_leaves rd zero h = h
 move_leaves rd (suc r) h = h
 
-held_call_leaves : (xs outgoing : List ℕ) → LeavesTwo (held_call xs outgoing)
-held_call_leaves [] outgoing = tt
-held_call_leaves (r ∷ xs) outgoing = tt
-
 held_tail_leaves : (xs : List ℕ) → LeavesTwo (held_tail xs)
 held_tail_leaves [] = tt
 held_tail_leaves (r ∷ xs) = tt
@@ -176,7 +171,7 @@ leaves_by Copy (Def rd ∷ Use rs ∷ rest) h = move_leaves rd rs (defines rd (U
 leaves_by PseudoBr (Block target ∷ rest) h = tt
 leaves_by PseudoCall (Symbol name ∷ rest) h = tt
 leaves_by PseudoRet os h = tt
-leaves_by PseudoCallIndirect os h = held_call_leaves (implicit_uses os) (outgoing_words os)
+leaves_by PseudoCallIndirect (Use r ∷ rest) h = tt
 leaves_by PseudoTail (Symbol name ∷ rest) h = tt
 leaves_by PseudoTailIndirect os h = held_tail_leaves (implicit_uses os)
 leaves_by NoReturnCall (Symbol name ∷ rest) h = tt

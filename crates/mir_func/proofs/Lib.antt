@@ -10,3 +10,4 @@ pub mod Ways
 pub mod Descents
 pub mod Leading
 pub mod Passed
+pub use Rattle.rv64_instr.proofs as rv64_instr

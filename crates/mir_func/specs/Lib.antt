@@ -13,3 +13,4 @@ pub mod Resolve
 pub mod Strip
 pub mod Successors
 pub mod steps
+pub use Rattle.rv64_instr.specs as rv64_instr

@@ -4,7 +4,7 @@ use Rattle.std.specs.List.{flat_map}
 use Rattle.rv64_instr.specs.declared.operand.Operand.{Operand}
 use Rattle.rv64_instr.specs.declared.operand.Operand.TheVariants.{Def, Use, ImplicitDef, ImplicitUse, Imm, Slot as OfSlot, Object as OfObject, Part}
 use Rattle.rv64_instr.specs.declared.operand.Operand.TheVariants.{Block as OfBlock}
-use Rattle.rv64_instr.specs.declared.operand.Operand.TheVariants.{Symbol, Mask, Outgoing}
+use Rattle.rv64_instr.specs.declared.operand.Operand.TheVariants.{Symbol, Mask, Outgoing, GlobalRegisters}
 use Rattle.rv64_instr.specs.declared.place.Place.{Place}
 use Rattle.rv64_instr.specs.declared.place.Place.TheVariants.{Register, Slot, Const}
 use Rattle.rv64_instr.specs.Row.{Base, PointedBy, ObjectAt, BesidePart}
@@ -24,7 +24,7 @@ use Rattle.mir_func.specs.Exits.{row_exit, exit_of, IsAlways, Leaves}
 use Rattle.mir_func.specs.Limits.{MAX_BLOCKS, MAX_SLOTS}
 use Rattle.mir_func.specs.Objects.{ALIGNMENTS, object_of, AreLaid}
 use Rattle.mir_func.specs.Function.{Function}
-use Rattle.base_ids.specs.Limits.{MAX_NUMBER}
+use Rattle.rv64_instr.specs.base_ids.Limits.{MAX_NUMBER}
 
 -- no number occurs twice
 abbrev pub AreApart : List ℕ → Type 0
@@ -150,6 +150,7 @@ IsNotPointer (OfSlot n) = Unit {0}
 IsNotPointer (OfObject n) = Unit {0}
 IsNotPointer (Part half y) = Unit {0}
 IsNotPointer (Outgoing n) = Unit {0}
+IsNotPointer GlobalRegisters = Unit {0}
 IsNotPointer (OfBlock n) = Unit {0}
 IsNotPointer (Symbol name) = Unit {0}
 IsNotPointer Mask = Unit {0}

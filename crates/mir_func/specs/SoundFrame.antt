@@ -9,7 +9,7 @@ use Rattle.rv64_instr.specs.declared.op.StoreOp.TheVariants.{Sd}
 use Rattle.rv64_instr.specs.declared.operand.Operand.{Operand}
 use Rattle.rv64_instr.specs.declared.operand.Operand.TheVariants.{Def, Use, ImplicitDef, ImplicitUse, Imm, Slot, Object as OfObject, Part, Block as OfBlock}
 use Rattle.rv64_instr.specs.declared.operand.Operand.TheVariants.{Symbol}
-use Rattle.rv64_instr.specs.declared.operand.Operand.TheVariants.{Mask, Outgoing}
+use Rattle.rv64_instr.specs.declared.operand.Operand.TheVariants.{Mask, Outgoing, GlobalRegisters}
 use Rattle.rv64_instr.specs.declared.place.Place.{Place}
 use Rattle.rv64_instr.specs.declared.place.Place.TheVariants.{Register, Slot as InSlot, Const}
 use Rattle.rv64_instr.specs.Instruction.{Instruction}
@@ -50,6 +50,7 @@ IsPhysical (Slot n) = Unit {0}
 IsPhysical (OfObject n) = Unit {0}
 IsPhysical (Part half y) = Unit {0}
 IsPhysical (Outgoing n) = Unit {0}
+IsPhysical GlobalRegisters = Unit {0}
 IsPhysical (OfBlock n) = Unit {0}
 IsPhysical (Symbol name) = Unit {0}
 IsPhysical Mask = Unit {0}
@@ -76,15 +77,15 @@ HasPhysical (Phi p k) = PlaceIsPhysical p
 
 -- `ADDI x2, x2, n`
 abbrev pub adds_to_pointer : ℤ → Instruction
-adds_to_pointer n = record { op = Immediate Addi; operands = Def 2 ∷ Use 2 ∷ Imm n ∷ [] }
+adds_to_pointer n = record { op = Immediate Addi; operands = Def 2 ∷ Use 2 ∷ Imm n ∷ []; volatile = false }
 
 -- `SD` of a saved register to its slot in the frame
 abbrev pub saves : SavedRegister → Instruction
-saves s = record { op = Store Sd; operands = Use s.register ∷ Slot s.offset ∷ Imm (pos 0) ∷ [] }
+saves s = record { op = Store Sd; operands = Use s.register ∷ Slot s.offset ∷ Imm (pos 0) ∷ []; volatile = false }
 
 -- `LD` of a saved register from its slot in the frame
 abbrev pub restores : SavedRegister → Instruction
-restores s = record { op = Load Ld; operands = Def s.register ∷ Slot s.offset ∷ Imm (pos 0) ∷ [] }
+restores s = record { op = Load Ld; operands = Def s.register ∷ Slot s.offset ∷ Imm (pos 0) ∷ []; volatile = false }
 
 -- the prologue: it lowers x2 by the frame's size, and then saves registers
 abbrev pub prologue_code : (size : ℕ) → List SavedRegister → List Instruction

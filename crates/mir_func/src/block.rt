@@ -3,8 +3,8 @@
 ghost use Rattle.std.specs.Prelude.{◌≡◌, IfOk};
 
 use crate::item::{Items, copy_items};
-use base_ids::function_ids::BlockId;
-use base_list::List;
+use rv64_instr::base_ids_crate::function_ids::BlockId;
+use rv64_instr::base_list_crate::List;
 use std::alloc::{AllocError, Global};
 
 /// A block of a function (LLVM: `MachineBasicBlock`).

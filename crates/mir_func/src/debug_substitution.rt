@@ -1,6 +1,6 @@
 //! Operands of instructions by their debug instruction numbers, and their substitutions.
 
-use base_ids::function_ids::{DebugNumber, OperandIndex};
+use rv64_instr::base_ids_crate::function_ids::{DebugNumber, OperandIndex};
 
 /// An operand of the instruction that has a debug instruction number (LLVM, "Instruction referencing for debug info":
 /// a debug instruction operand pair).

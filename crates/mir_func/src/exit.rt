@@ -6,7 +6,7 @@ ghost use Rattle.rv64_instr.specs.Decoded.{Shows};
 ghost use Rattle.mir_func.specs.Exits.{row_exit, exit_of, row_leads_back, leads_back};
 
 use crate::item::ItemKind;
-use base_ids::function_ids::BlockId;
+use rv64_instr::base_ids_crate::function_ids::BlockId;
 use rv64_instr::decoded::{Decoded, Way};
 
 /// How control leaves an item.

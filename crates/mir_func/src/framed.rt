@@ -2,8 +2,8 @@
 
 use crate::block::Blocks;
 use crate::object::Objects;
-use base_ids::function_ids::SlotId;
-use base_list::List;
+use rv64_instr::base_ids_crate::function_ids::SlotId;
+use rv64_instr::base_list_crate::List;
 use rv64_instr::name::Name;
 use rv64_instr::reg::Reg;
 use std::marker::Model;

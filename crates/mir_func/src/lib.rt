@@ -5,6 +5,9 @@
 //! functions have slots at offsets from the stack pointer.
 #![tactic(auto)]
 
+pub use rv64_instr as rv64_instr_crate;
+pub use rv64_instr::{base_ids_crate as base_ids_crate, base_list_crate as base_list_crate};
+
 pub mod block;
 pub mod debug_substitution;
 pub mod exit;

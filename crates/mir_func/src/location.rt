@@ -1,6 +1,6 @@
 //! Debug locations of items.
 
-use base_ids::metadata::NodeId;
+use rv64_instr::base_ids_crate::metadata::NodeId;
 
 /// The debug location that an item carries (LLVM: `DebugLoc`).
 #[derive(Clone, Copy, Debug, PartialEq, Eq)]

@@ -20,8 +20,8 @@ ghost use Rattle.mir_func.specs.Objects.{
 };
 ghost use Rattle.mir_func.specs.Sound.{IsSoundObject};
 
-use base_ids::function_ids::ObjectId;
-use base_list::List;
+use rv64_instr::base_ids_crate::function_ids::ObjectId;
+use rv64_instr::base_list_crate::List;
 
 /// A stack object: bytes of the frame whose address code may take (LLVM: a frame index that is no spill slot).
 #[derive(Clone, Copy, Debug, PartialEq, Eq)]

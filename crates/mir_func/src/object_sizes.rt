@@ -5,7 +5,7 @@ ghost use Rattle.mir_func.specs.Sound.{HasBytes};
 ghost use Rattle.mir_func.specs.steps.Checks.{AreSizes};
 
 use crate::object::{Object, Objects};
-use base_ids::function_ids::ObjectId;
+use rv64_instr::base_ids_crate::function_ids::ObjectId;
 use std::alloc::{AllocError, Global};
 use std::collections::BTreeMap;
 use std::marker::Model;

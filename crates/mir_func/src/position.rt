@@ -3,7 +3,7 @@
 ghost use Rattle.std.specs.Prelude.{◌≡◌};
 ghost use Rattle.mir_func.specs.Positions.{position_of};
 
-use base_ids::function_ids::{BlockId, BlockIndex};
+use rv64_instr::base_ids_crate::function_ids::{BlockId, BlockIndex};
 
 /// A position in a function as it was read: the number N of a block `bb.N`, and the index of an item in it from 0.
 /// The index past a block's last item is its silent position, from which control goes on to the next block in

@@ -19,7 +19,7 @@ ghost use Rattle.mir_func.specs.steps.Checks.{AreSoundObjects};
 use crate::limits::ALIGNMENTS;
 use crate::number_set::Numbers;
 use crate::object::{Object, counted, end_past, place_of, placed_area, reach_after, up_to};
-use base_ids::limits::MAX_NUMBER;
+use rv64_instr::base_ids_crate::limits::MAX_NUMBER;
 use std::alloc::{AllocError, Global};
 
 /// Whether each object has a number of its own, and the size, alignment and offset that an object must have.

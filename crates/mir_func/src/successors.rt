@@ -10,7 +10,7 @@ use crate::block::Block;
 use crate::exit::Exit;
 use crate::func::Func;
 use crate::item::Item;
-use base_ids::function_ids::BlockId;
+use rv64_instr::base_ids_crate::function_ids::BlockId;
 
 /// The numbers of a block's successors. Two may be the same.
 #[derive(Clone, Copy, Debug, PartialEq, Eq)]

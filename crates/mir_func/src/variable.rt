@@ -5,7 +5,7 @@ ghost use Rattle.mir_func.specs.Variables.{are_same_bytes, do_meet, overlaps};
 
 use crate::debug_substitution::OperandPair;
 use crate::limits::{MAX_PART, MAX_PART_END};
-use base_ids::metadata::NodeId;
+use rv64_instr::base_ids_crate::metadata::NodeId;
 use rv64_instr::reg::Reg;
 use std::marker::Model;
 

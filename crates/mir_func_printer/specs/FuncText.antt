@@ -3,12 +3,16 @@
 use Rattle.std.specs.Prelude.{ℕ, Bool, true, false, cond, ◌&&◌, ◌||◌, nat_eq, nat_le, List, [], ◌∷◌, ◌++◌, Option, Some, None, codes}
 use Rattle.std.specs.List.{flat_map, list_all}
 use Rattle.std.specs.Fmt.{decimal}
+use Rattle.mir_exposure.specs.declared.exposure.Exposure.{Exposure}
+use Rattle.mir_exposure.specs.declared.exposure.Exposure.TheVariants.{Nothing, Globals, Everything}
 use Rattle.mir_func.specs.Function.{Function}
 use Rattle.mir_func.specs.declared.object.Object.{Object}
 use Rattle.mir_func.specs.declared.debug_substitution.OperandPair.{OperandPair}
 use Rattle.mir_func.specs.declared.debug_substitution.DebugSubstitution.{DebugSubstitution}
 use Rattle.mir_func.specs.declared.block.Block.{Block}
 use Rattle.mir_func.specs.declared.item.Item.{Item}
+use Rattle.mir_pool.specs.declared.constant.PoolConstant.{PoolConstant}
+use Rattle.mir_pool.specs.Pool.{bits_of}
 use Rattle.mir_printer.specs.Spelling.{quoted_byte, item_text}
 
 -- a letter or `_`
@@ -59,6 +63,29 @@ abbrev pub stack_text : List ℕ → List Object → List ℕ
 stack_text slots objects =
     cond (is_nothing slots && is_nothing objects) [] (codes "stack:" ++ 10 ∷ [] ++ flat_map slot_line slots ++ flat_map object_line objects)
 
+-- a line of a label and a number
+abbrev pub numbered_line : List ℕ → ℕ → List ℕ
+numbered_line label n = label ++ decimal n ++ 10 ∷ []
+
+-- the line with the type and the value of a constant
+abbrev pub value_line : (bits value : ℕ) → List ℕ
+value_line bits value = codes "    value: i" ++ decimal bits ++ codes " " ++ decimal value ++ 10 ∷ []
+
+-- a constant of the pool: its number, its type and value, and its alignment
+abbrev pub constant_text : PoolConstant → List ℕ
+constant_text c = numbered_line (codes "  - id: ") c.id ++ value_line (bits_of c.integer) c.value ++ numbered_line (codes "    alignment: ") c.alignment
+
+-- the constants of the pool, unless there are none
+abbrev pub pool_text : List PoolConstant → List ℕ
+pool_text [] = []
+pool_text (c ∷ cs) = codes "constants:" ++ 10 ∷ [] ++ flat_map constant_text (c ∷ cs)
+
+-- the key of a function that calls one that may return twice
+abbrev pub exposure_text : Exposure → List ℕ
+exposure_text Nothing = []
+exposure_text Globals = []
+exposure_text Everything = codes "exposesReturnsTwice: true" ++ 10 ∷ []
+
 -- a pair, with words before its number and before its operand
 abbrev pub pair_text : List ℕ → List ℕ → OperandPair → List ℕ
 pair_text number operand p = number ++ decimal p.number ++ operand ++ decimal p.operand
@@ -84,7 +111,19 @@ item_line i = codes "    " ++ item_text i ++ 10 ∷ []
 abbrev pub block_text : Block → List ℕ
 block_text b = codes "  bb." ++ decimal b.id ++ (codes ":" ++ 10 ∷ []) ++ flat_map item_line b.items
 
+-- what begins the document of a function, up to what stands behind its name
+abbrev pub document_with : Function → List ℕ → List ℕ
+document_with f rest = codes "---" ++ 10 ∷ [] ++ codes "name: " ++ name_text f.name ++ 10 ∷ [] ++ rest
+
+-- the document of a function from its stack on
+abbrev pub stack_and_body : Function → List DebugSubstitution → List ℕ
+stack_and_body f entries = stack_text f.slots f.objects ++ substitutions_text entries ++ (codes "body: |" ++ 10 ∷ []) ++ flat_map block_text f.blocks
+    ++ (codes "..." ++ 10 ∷ [])
+
 -- The text of a function and its substitutions.
 unfoldable pub func_text : Function → List DebugSubstitution → List ℕ
-func_text f entries = codes "---" ++ 10 ∷ [] ++ codes "name: " ++ name_text f.name ++ 10 ∷ [] ++ stack_text f.slots f.objects ++ substitutions_text entries
-    ++ (codes "body: |" ++ 10 ∷ []) ++ flat_map block_text f.blocks ++ (codes "..." ++ 10 ∷ [])
+func_text f entries = document_with f (stack_and_body f entries)
+
+-- The text of a function, the constants of its pool, its substitutions and what it exposes.
+unfoldable pub linked_func_text : Function → List PoolConstant → List DebugSubstitution → Exposure → List ℕ
+linked_func_text f pool entries exposure = document_with f (exposure_text exposure ++ (pool_text pool ++ stack_and_body f entries))

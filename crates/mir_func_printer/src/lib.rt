@@ -6,5 +6,6 @@
 
 mod body;
 mod name;
+mod pool;
 pub mod print;
 mod stack;

@@ -23,9 +23,9 @@ use Rattle.rv64_instr.specs.declared.symbol.Half.TheVariants.{Upper, Lower}
 use Rattle.rv64_instr.specs.Instruction.{Instruction}
 use Rattle.rv64_instr.specs.Arithmetic.{load_width, store_width}
 use Rattle.rv64_instr.specs.Form.{has_form, fits_registers, fits_immediate, fits_upper, fits_branch, fits_load, fits_store, fits_copy, fits_jump, fits_call}
-use Rattle.rv64_instr.specs.Form.{has_register_callee, is_within, has_12_bits, is_immediate, is_addi, moves_slot, is_implicit, is_argument}
-use Rattle.rv64_instr.specs.Form.{is_result, is_call_register, is_held_tail_use, is_held_tail_register, fits_held_call, fits_tail, fits_held_tail}
-use Rattle.rv64_instr.proofs.Tails.{gone_calls, held_gone_calls, held_tail_uses}
+use Rattle.rv64_instr.specs.Form.{has_implicit_callee, is_within, has_12_bits, is_immediate, is_addi, moves_slot, is_implicit, is_argument}
+use Rattle.rv64_instr.specs.Form.{is_result, is_held_tail_use, is_held_tail_register, fits_held_call, fits_held_gone, fits_tail, fits_held_tail}
+use Rattle.rv64_instr.proofs.Tails.{gone_calls, held_gone_arguments, held_tail_uses}
 use Rattle.rv64_instr.specs.Mnemonic.{mnemonic_of}
 use Rattle.mir_printer.specs.Spelling.{definitions_text, instruction_text, is_definition, register_text, uses_text, as_callee, held_uses}
 use Rattle.mir_printer.specs.Printable.{IsNumber, HasNumbers, IsPrintableInstruction, as_slot}
@@ -188,17 +188,24 @@ call_parts (Symbol name ∷ Mask ∷ rest) e = record {
 call_parts os e = absurd cc
 
 held_call_parts : (os : List Operand) → fits_held_call os ≡ true → Parts os
-held_call_parts (ImplicitUse r ∷ Mask ∷ rest) e =
-    record {
-      target = None;
-      uses = ImplicitUse r ∷ Mask ∷ rest;
-      parts = refl;
-      none =
-          (refl, (refl, all_none is_argument argument_none rest (behind (is_call_register r) (list_all is_argument rest) e)));
-      kind =
-          no_slots (refl, (refl, no_slots_of is_argument argument_plain rest (behind (is_call_register r) (list_all is_argument rest) e)));
-    }
+held_call_parts (Use r ∷ Mask ∷ rest) e = record {
+  target = None;
+  uses = Use r ∷ Mask ∷ rest;
+  parts = refl;
+  none = (refl, (refl, all_none is_argument argument_none rest e));
+  kind = no_slots (refl, (refl, no_slots_of is_argument argument_plain rest e));
+}
 held_call_parts os e = absurd cc
+
+held_gone_parts : (os : List Operand) → fits_held_gone os ≡ true → Parts os
+held_gone_parts (ImplicitUse r ∷ Mask ∷ rest) e = record {
+  target = None;
+  uses = ImplicitUse r ∷ Mask ∷ rest;
+  parts = refl;
+  none = (refl, (refl, all_none is_argument argument_none rest (held_gone_arguments r rest e)));
+  kind = no_slots (refl, (refl, no_slots_of is_argument argument_plain rest (held_gone_arguments r rest e)));
+}
+held_gone_parts os e = absurd cc
 
 tail_parts : (os : List Operand) → fits_tail os ≡ true → Parts os
 tail_parts (Symbol name ∷ rest) e =
@@ -239,7 +246,7 @@ parts_of PseudoCallIndirect os e = held_call_parts os e
 parts_of PseudoTail os e = tail_parts os e
 parts_of PseudoTailIndirect os e = held_tail_parts os e
 parts_of NoReturnCall os e = call_parts os (gone_calls os e)
-parts_of NoReturnCallIndirect os e = held_call_parts os (held_gone_calls os e)
+parts_of NoReturnCallIndirect os e = held_gone_parts os e
 parts_of PseudoRet os e =
     record { target = None; uses = os; parts = refl; none = all_none is_result result_none os e; kind = no_slots (no_slots_of is_result result_plain os e) }
 
@@ -260,7 +267,7 @@ all_uses : (os : List Operand) → NoDefinitions os → filter (λ o. not (is_de
 all_uses [] none = refl
 all_uses (o ∷ os) none = rw (none.0) (ap (λ (us : List Operand). o ∷ us) (all_uses os none.1))
 
--- ---- the callee of a call by a register, which prints as a register that is read
+-- ---- a callee's register that is an implicit use, which prints as one that is read
 
 abbrev BeginsImplicit : List Operand → Type 0
 BeginsImplicit (ImplicitUse r ∷ rest) = Unit {0}
@@ -271,7 +278,7 @@ abbrev IsBegun : (held : Bool) → List Operand → Type 0
 IsBegun true os = BeginsImplicit os
 IsBegun false os = Unit {0}
 
-held_begins : (os : List Operand) → fits_held_call os ≡ true → BeginsImplicit os
+held_begins : (os : List Operand) → fits_held_gone os ≡ true → BeginsImplicit os
 held_begins (ImplicitUse r ∷ Mask ∷ rest) e = tt
 held_begins os e = absurd cc
 
@@ -279,10 +286,9 @@ tail_begins : (os : List Operand) → fits_held_tail os ≡ true → BeginsImpli
 tail_begins (ImplicitUse r ∷ rest) e = tt
 tail_begins os e = absurd cc
 
-begun : (op : Op) (os : List Operand) → has_form op os ≡ true → IsBegun (has_register_callee op) os
-begun PseudoCallIndirect os e = held_begins os e
+begun : (op : Op) (os : List Operand) → has_form op os ≡ true → IsBegun (has_implicit_callee op) os
 begun PseudoTailIndirect os e = tail_begins os e
-begun NoReturnCallIndirect os e = held_begins os (held_gone_calls os e)
+begun NoReturnCallIndirect os e = held_begins os e
 begun op os e = tt
 
 uses_begun : (held : Bool) (target : Option ℕ) (uses : List Operand) → IsBegun held (with_target target uses) → IsBegun held uses
@@ -329,15 +335,15 @@ regrouped : (a b c d e : List ℕ) → (((a ++ b) ++ c) ++ d) ++ e ≡ a ++ (b +
 regrouped a b c d e = simp append_assoc
 
 text_before : (target : Option ℕ) (op : Op) (uses : List Operand) (tail : List ℕ) → NoDefinitions uses →
-    IsBegun (has_register_callee op) (with_target target uses) →
-    instruction_text (record { op = op; operands = with_target target uses }) ++ tail ≡ before target op (shown (has_register_callee op) uses) tail
+    IsBegun (has_implicit_callee op) (with_target target uses) →
+    instruction_text (record { op = op; operands = with_target target uses; volatile = false }) ++ tail ≡ before target op (shown (has_implicit_callee op) uses) tail
 text_before None op uses tail none h =
-    (λ i. ((definitions_text (no_definitions uses none i) ++ mnemonic_of op) ++ uses_text (uses_shown (has_register_callee op) None uses none h i)) ++ tail)
-    ∙ append_assoc (mnemonic_of op) (uses_text (shown (has_register_callee op) uses)) tail
+    (λ i. ((definitions_text (no_definitions uses none i) ++ mnemonic_of op) ++ uses_text (uses_shown (has_implicit_callee op) None uses none h i)) ++ tail)
+    ∙ append_assoc (mnemonic_of op) (uses_text (shown (has_implicit_callee op) uses)) tail
 text_before (Some rd) op uses tail none h =
     (λ i. ((definitions_text (Def rd ∷ no_definitions uses none i) ++ mnemonic_of op)
-    ++ uses_text (uses_shown (has_register_callee op) (Some rd) uses none h i)) ++ tail)
-    ∙ regrouped (register_text rd) (codes " = ") (mnemonic_of op) (uses_text (shown (has_register_callee op) uses)) tail
+    ++ uses_text (uses_shown (has_implicit_callee op) (Some rd) uses none h i)) ++ tail)
+    ∙ regrouped (register_text rd) (codes " = ") (mnemonic_of op) (uses_text (shown (has_implicit_callee op) uses)) tail
 
 -- ---- one instruction
 
@@ -409,15 +415,14 @@ pub record EndsInstruction (text : List ℕ) : Type 0 where
   pub tail : IsTail text
   pub letter : Stops is_letter text
 
--- two instructions of one opcode that are one with slots for objects
-same_instruction : (objects : ℕ → Bool) (i j : Instruction) → IsPrintableInstruction objects i → IsPrintableInstruction objects j → OneKind i.operands →
+-- the operands of two instructions of one opcode that are the same with slots for objects
+same_operands : (objects : ℕ → Bool) (i j : Instruction) → IsPrintableInstruction objects i → IsPrintableInstruction objects j → OneKind i.operands →
     OneKind j.operands →
-    i.op ≡ j.op → map as_slot i.operands ≡ map as_slot j.operands → i ≡ j
-same_instruction objects i j is others kind kinds op e =
+    i.op ≡ j.op → map as_slot i.operands ≡ map as_slot j.operands → i.operands ≡ j.operands
+same_operands objects i j is others kind kinds op e =
     let form : has_form i.op j.operands ≡ true = ap (λ (o : Op). has_form o j.operands) op ∙ others.form in
     let told : IsTold objects i.op j.operands = λ h. others.stack (ap (λ (o : Op). has_form o (map as_slot j.operands)) (sym op) ∙ h) in
-    let operands : i.operands ≡ j.operands = operands_one objects i.op i.operands j.operands kind kinds is.form form is.stack told e in
-    λ k. record { op = op k; operands = operands k }
+    operands_one objects i.op i.operands j.operands kind kinds is.form form is.stack told e
 
 slots_of : (target : Option ℕ) (uses : List Operand) → map as_slot (with_target target uses) ≡ with_target target (map as_slot uses)
 slots_of None uses = refl
@@ -425,31 +430,31 @@ slots_of (Some rd) uses = refl
 
 pub instruction_one : (objects : ℕ → Bool) (i j : Instruction) (r s : List ℕ) → IsPrintableInstruction objects i → IsPrintableInstruction objects j →
     EndsInstruction r → EndsInstruction s →
-    instruction_text i ++ r ≡ instruction_text j ++ s → (i ≡ j) × (r ≡ s)
+    instruction_text i ++ r ≡ instruction_text j ++ s → (i.op ≡ j.op) × (i.operands ≡ j.operands) × (r ≡ s)
 instruction_one objects i j r s is others end ends e =
     let p = parts_of i.op i.operands is.form in
     let q = parts_of j.op j.operands others.form in
     let all : All HasNumbers (with_target p.target p.uses) = subst (All HasNumbers) p.parts is.numbers in
     let more : All HasNumbers (with_target q.target q.uses) = subst (All HasNumbers) q.parts others.numbers in
-    let a = has_register_callee i.op in
-    let b = has_register_callee j.op in
+    let a = has_implicit_callee i.op in
+    let b = has_implicit_callee j.op in
     let h : IsBegun a (with_target p.target p.uses) = subst (IsBegun a) p.parts (begun i.op i.operands is.form) in
     let k : IsBegun b (with_target q.target q.uses) = subst (IsBegun b) q.parts (begun j.op j.operands others.form) in
     let left : instruction_text i ++ r ≡ before p.target i.op (shown a p.uses) r =
-    ap (λ (os : List Operand). instruction_text (record { op = i.op; operands = os }) ++ r) p.parts ∙ text_before p.target i.op p.uses r p.none h in
+    ap (λ (os : List Operand). instruction_text (record i { operands = os }) ++ r) p.parts ∙ text_before p.target i.op p.uses r p.none h in
     let right : instruction_text j ++ s ≡ before q.target j.op (shown b q.uses) s =
-    ap (λ (os : List Operand). instruction_text (record { op = j.op; operands = os }) ++ s) q.parts ∙ text_before q.target j.op q.uses s q.none k in
+    ap (λ (os : List Operand). instruction_text (record j { operands = os }) ++ s) q.parts ∙ text_before q.target j.op q.uses s q.none k in
     let found = before_one p.target q.target i.op j.op (shown a p.uses) (shown b q.uses) r s (target_of p.target p.uses all)
     (target_of q.target q.uses more) (shown_all a p.uses (uses_of p.uses p.none (numbers_of p.target p.uses all)))
     (shown_all b q.uses (uses_of q.uses q.none (numbers_of q.target q.uses more))) end.tail ends.tail end.letter ends.letter (sym left ∙ (e ∙ right)) in
     let same : map as_slot p.uses ≡ map as_slot q.uses =
     same_uses a p.uses q.uses (uses_begun a p.target p.uses h)
-    (subst (λ (op : Op). IsBegun (has_register_callee op) q.uses) (sym found.1) (uses_begun b q.target q.uses k))
-    (found.2 ∙ ap (λ (op : Op). map as_slot (shown (has_register_callee op) q.uses)) (sym found.1)) in
+    (subst (λ (op : Op). IsBegun (has_implicit_callee op) q.uses) (sym found.1) (uses_begun b q.target q.uses k))
+    (found.2 ∙ ap (λ (op : Op). map as_slot (shown (has_implicit_callee op) q.uses)) (sym found.1)) in
     let slots : map as_slot i.operands ≡ map as_slot j.operands =
     ap (map as_slot) p.parts ∙ (slots_of p.target p.uses ∙ (ap (λ (t : Option ℕ). with_target t (map as_slot p.uses)) found.0 ∙
     (ap (λ (us : List Operand). with_target q.target us) same ∙ (sym (slots_of q.target q.uses) ∙ sym (ap (map as_slot) q.parts))))) in
-    (same_instruction objects i j is others p.kind q.kind found.1 slots, found.3)
+    (found.1, same_operands objects i j is others p.kind q.kind found.1 slots, found.3)
 
 -- an instruction doesn't begin with a `D`
 abbrev begins_with_d : List ℕ → Bool
@@ -475,9 +480,9 @@ before_begins (Some rd) op uses tail = register_begins (nat_lt rd 32) rd (codes 
 pub instruction_begins : (objects : ℕ → Bool) (i : Instruction) (r s : List ℕ) → IsPrintableInstruction objects i → instruction_text i ++ r ≡ 68 ∷ s → ⊥
 instruction_begins objects i r s is e =
     let p = parts_of i.op i.operands is.form in
-    let a = has_register_callee i.op in
+    let a = has_implicit_callee i.op in
     let text : instruction_text i ++ r ≡ before p.target i.op (shown a p.uses) r =
-    ap (λ (os : List Operand). instruction_text (record { op = i.op; operands = os }) ++ r) p.parts
+    ap (λ (os : List Operand). instruction_text (record i { operands = os }) ++ r) p.parts
     ∙ text_before p.target i.op p.uses r p.none (subst (IsBegun a) p.parts (begun i.op i.operands is.form)) in
     let both : false ≡ true = sym (before_begins p.target i.op (shown a p.uses) r) ∙ (ap begins_with_d (sym text) ∙ ap begins_with_d e) in
     cc

@@ -20,7 +20,7 @@ use Rattle.mir_func.specs.declared.item.Item.{Item}
 use Rattle.mir_func.specs.declared.item.ItemKind.{ItemKind}
 use Rattle.mir_func.specs.declared.item.ItemKind.TheVariants.{Code, Mark, Phi}
 use Rattle.mir_printer.specs.Spelling.{register_text, instruction_text, number_text, phi_place_text, expression_text, pair_expression_text, value_mark_text}
-use Rattle.mir_printer.specs.Spelling.{mark_text, kind_text, inlined_at_text, location_text, item_text}
+use Rattle.mir_printer.specs.Spelling.{mark_text, kind_text, inlined_at_text, location_text, is_volatile_kind, with_memory_operand, item_text}
 use Rattle.mir_printer.specs.Printable.{IsNumber, IsPrintableInstruction, IsPrintablePlace, IsPrintableValue, IsPrintableLoc, IsPrintableVariable}
 use Rattle.mir_printer.specs.Printable.{IsPrintableKind, IsPrintable, Declared, inlined_at}
 use Rattle.mir_printer.proofs.Cuts.{front_one, apart, Stops, is_digit, decimal_head, signed_one, signed_head}
@@ -105,26 +105,57 @@ inline_one a b r s is others e =
     let inlined = inlined_one a.inlined_at b.inlined_at r s is.3 others.3 scope.1 in
     (λ k. record { line = line.0 k; column = column.0 k; scope = scope.0 k; inlined_at = inlined.0 k }, inlined.1)
 
--- one location, where what follows is the end of a line
-location_one : (l m : Loc) (r s : List ℕ) → IsPrintableLoc l → IsPrintableLoc m → location_before l (10 ∷ r) ≡ location_before m (10 ∷ s) → (l ≡ m) × (r ≡ s)
-location_one Absent Absent r s is others e = (refl, front_one (10 ∷ []) r s e)
-location_one (Node m) (Node n) r s is others e =
-    let found = number_one m n (10 ∷ r) (10 ∷ s) is others refl refl
-    (front_one (codes ", debug-location !") (decimal m ++ (10 ∷ r)) (decimal n ++ (10 ∷ s)) e) in
-    (ap Node found.0, front_one (10 ∷ []) r s found.1)
-location_one (Inline l) (Inline m) r s is others e =
-    let found = inline_one l m (10 ∷ r) (10 ∷ s) is others (front_one (codes ", debug-location !DILocation(line: ") _ _ e) in
-    (ap Inline found.0, front_one (10 ∷ []) r s found.1)
-location_one Absent (Node n) r s is others e = absurd (apart 10 44 r (codes " debug-location !" ++ (decimal n ++ (10 ∷ s))) refl e)
-location_one (Node n) Absent r s is others e = absurd (apart 10 44 s (codes " debug-location !" ++ (decimal n ++ (10 ∷ r))) refl (sym e))
-location_one Absent (Inline l) r s is others e = absurd (apart 10 44 r (codes " debug-location !DILocation(line: " ++ inline_before l (10 ∷ s)) refl e)
-location_one (Inline l) Absent r s is others e = absurd (apart 10 44 s (codes " debug-location !DILocation(line: " ++ inline_before l (10 ∷ r)) refl (sym e))
-location_one (Node n) (Inline l) r s is others e =
-    absurd (digit_apart n 68 (10 ∷ r) (codes "ILocation(line: " ++ inline_before l (10 ∷ s)) is (λ low high. omega arith)
-    (front_one (codes ", debug-location !") (decimal n ++ (10 ∷ r)) _ e))
-location_one (Inline l) (Node n) r s is others e =
-    absurd (digit_apart n 68 (10 ∷ s) (codes "ILocation(line: " ++ inline_before l (10 ∷ r)) others (λ low high. omega arith)
-    (front_one (codes ", debug-location !") (decimal n ++ (10 ∷ s)) _ (sym e)))
+-- what follows an item: its memory operand, if it is volatile, and the end of the line
+abbrev pub ending : (volatile : Bool) → List ℕ → List ℕ
+ending true rest = codes " :: (volatile load)" ++ (10 ∷ rest)
+ending false rest = 10 ∷ rest
+
+-- what may follow an item
+record EndsLine (text : List ℕ) : Type 0 where
+  instruction : EndsInstruction text
+  comma : (rest : List ℕ) → text ≡ 44 ∷ rest → ⊥
+
+ending_ends : (volatile : Bool) (r : List ℕ) → EndsLine (ending volatile r)
+ending_ends true r = record {
+  instruction = record { tail = record { follows = record { digits = refl; bare = refl; space = refl }; ends = refl; blank = refl }; letter = refl };
+  comma = λ rest e. apart 32 44 (codes ":: (volatile load)" ++ (10 ∷ r)) rest refl e;
+}
+ending_ends false r = record {
+  instruction = record { tail = record { follows = record { digits = refl; bare = refl; space = refl }; ends = no_more r; blank = refl }; letter = refl };
+  comma = λ rest e. apart 10 44 r rest refl e;
+} where
+  no_more : (r : List ℕ) → goes_on (10 ∷ r) ≡ false
+  no_more [] = refl
+  no_more (a ∷ []) = refl
+  no_more (a ∷ b ∷ bs) = refl
+
+ending_one : (v w : Bool) (r s : List ℕ) → ending v r ≡ ending w s → (v ≡ w) × (r ≡ s)
+ending_one true true r s e = (refl, front_one (10 ∷ []) r s (front_one (codes " :: (volatile load)") (10 ∷ r) (10 ∷ s) e))
+ending_one true false r s e = absurd (apart 32 10 (codes ":: (volatile load)" ++ (10 ∷ r)) s refl e)
+ending_one false true r s e = absurd (apart 10 32 r (codes ":: (volatile load)" ++ (10 ∷ s)) refl e)
+ending_one false false r s e = (refl, front_one (10 ∷ []) r s e)
+
+-- one location, where what follows is the end of an item
+location_one : (l m : Loc) (t u : List ℕ) → EndsLine t → EndsLine u → IsPrintableLoc l → IsPrintableLoc m → location_before l t ≡ location_before m u →
+    (l ≡ m) × (t ≡ u)
+location_one Absent Absent t u end ends is others e = (refl, e)
+location_one (Node m) (Node n) t u end ends is others e =
+    let found = number_one m n t u is others end.instruction.tail.follows.digits ends.instruction.tail.follows.digits
+    (front_one (codes ", debug-location !") (decimal m ++ t) (decimal n ++ u) e) in
+    (ap Node found.0, found.1)
+location_one (Inline l) (Inline m) t u end ends is others e =
+    let found = inline_one l m t u is others (front_one (codes ", debug-location !DILocation(line: ") _ _ e) in
+    (ap Inline found.0, found.1)
+location_one Absent (Node n) t u end ends is others e = absurd (end.comma (codes " debug-location !" ++ (decimal n ++ u)) e)
+location_one (Node n) Absent t u end ends is others e = absurd (ends.comma (codes " debug-location !" ++ (decimal n ++ t)) (sym e))
+location_one Absent (Inline l) t u end ends is others e = absurd (end.comma (codes " debug-location !DILocation(line: " ++ inline_before l u) e)
+location_one (Inline l) Absent t u end ends is others e = absurd (ends.comma (codes " debug-location !DILocation(line: " ++ inline_before l t) (sym e))
+location_one (Node n) (Inline l) t u end ends is others e =
+    absurd (digit_apart n 68 t (codes "ILocation(line: " ++ inline_before l u) is (λ low high. omega arith)
+    (front_one (codes ", debug-location !") (decimal n ++ t) _ e))
+location_one (Inline l) (Node n) t u end ends is others e =
+    absurd (digit_apart n 68 u (codes "ILocation(line: " ++ inline_before l t) others (λ low high. omega arith)
+    (front_one (codes ", debug-location !") (decimal n ++ u) _ (sym e)))
 
 -- ---- debug instruction numbers, and the locations behind them
 
@@ -136,42 +167,40 @@ number_is : (k : Option ℕ) (rest : List ℕ) → number_text k ++ rest ≡ num
 number_is None rest = refl
 number_is (Some k) rest = append_assoc (codes ", debug-instr-number ") (decimal k) rest
 
-location_ends : (l : Loc) (r : List ℕ) → EndsInstruction (location_before l (10 ∷ r))
-location_ends Absent r = record { tail = record { follows = record { digits = refl; bare = refl; space = refl }; ends = no_more r; blank = refl }; letter = refl }
-  where
-    no_more : (r : List ℕ) → goes_on (10 ∷ r) ≡ false
-    no_more [] = refl
-    no_more (a ∷ []) = refl
-    no_more (a ∷ b ∷ bs) = refl
-location_ends (Node n) r = record { tail = record { follows = record { digits = refl; bare = refl; space = refl }; ends = refl; blank = refl }; letter = refl }
-location_ends (Inline l) r = record { tail = record { follows = record { digits = refl; bare = refl; space = refl }; ends = refl; blank = refl }; letter = refl }
+location_ends : (l : Loc) (t : List ℕ) → EndsLine t → EndsInstruction (location_before l t)
+location_ends Absent t end = end.instruction
+location_ends (Node n) t end =
+    record { tail = record { follows = record { digits = refl; bare = refl; space = refl }; ends = refl; blank = refl }; letter = refl }
+location_ends (Inline l) t end =
+    record { tail = record { follows = record { digits = refl; bare = refl; space = refl }; ends = refl; blank = refl }; letter = refl }
 
-number_ends : (k : Option ℕ) (l : Loc) (r : List ℕ) → EndsInstruction (number_before k (location_before l (10 ∷ r)))
-number_ends None l r = location_ends l r
-number_ends (Some k) l r = record { tail = record { follows = record { digits = refl; bare = refl; space = refl }; ends = refl; blank = refl }; letter = refl }
+number_ends : (k : Option ℕ) (l : Loc) (t : List ℕ) → EndsLine t → EndsInstruction (number_before k (location_before l t))
+number_ends None l t end = location_ends l t end
+number_ends (Some k) l t end =
+    record { tail = record { follows = record { digits = refl; bare = refl; space = refl }; ends = refl; blank = refl }; letter = refl }
 
-location_stops : (l : Loc) (r : List ℕ) → Stops is_digit (location_before l (10 ∷ r))
-location_stops Absent r = refl
-location_stops (Node n) r = refl
-location_stops (Inline l) r = refl
+location_stops : (l : Loc) (t : List ℕ) → EndsLine t → Stops is_digit (location_before l t)
+location_stops Absent t end = end.instruction.tail.follows.digits
+location_stops (Node n) t end = refl
+location_stops (Inline l) t end = refl
 
 -- a number is no location
-number_apart : (k : ℕ) (l : Loc) (r s : List ℕ) → codes ", debug-instr-number " ++ r ≡ location_before l (10 ∷ s) → ⊥
-number_apart k Absent r s e = apart 44 10 (codes " debug-instr-number " ++ r) s refl e
-number_apart k (Node n) r s e = apart 105 108 (codes "nstr-number " ++ r) (codes "ocation !" ++ (decimal n ++ (10 ∷ s))) refl
-    (front_one (codes ", debug-") _ _ e)
-number_apart k (Inline l) r s e = apart 105 108 (codes "nstr-number " ++ r) (codes "ocation !DILocation(line: " ++ inline_before l (10 ∷ s)) refl
+number_apart : (k : ℕ) (l : Loc) (r t : List ℕ) → EndsLine t → codes ", debug-instr-number " ++ r ≡ location_before l t → ⊥
+number_apart k Absent r t end e = end.comma (codes " debug-instr-number " ++ r) (sym e)
+number_apart k (Node n) r t end e = apart 105 108 (codes "nstr-number " ++ r) (codes "ocation !" ++ (decimal n ++ t)) refl (front_one (codes ", debug-") _ _ e)
+number_apart k (Inline l) r t end e = apart 105 108 (codes "nstr-number " ++ r) (codes "ocation !DILocation(line: " ++ inline_before l t) refl
     (front_one (codes ", debug-") _ _ e)
 
-numbers_one : (j k : Option ℕ) (l m : Loc) (r s : List ℕ) → IfSome j IsNumber → IfSome k IsNumber → IsPrintableLoc l → IsPrintableLoc m →
-    number_before j (location_before l (10 ∷ r)) ≡ number_before k (location_before m (10 ∷ s)) → (j ≡ k) × (l ≡ m) × (r ≡ s)
-numbers_one None None l m r s small other is others e = let found = location_one l m r s is others e in (refl, found.0, found.1)
-numbers_one None (Some k) l m r s small other is others e = absurd (number_apart k l (decimal k ++ location_before m (10 ∷ s)) r (sym e))
-numbers_one (Some j) None l m r s small other is others e = absurd (number_apart j m (decimal j ++ location_before l (10 ∷ r)) s e)
-numbers_one (Some j) (Some k) l m r s small other is others e =
-    let number = number_one j k (location_before l (10 ∷ r)) (location_before m (10 ∷ s)) small other (location_stops l r) (location_stops m s)
+numbers_one : (j k : Option ℕ) (l m : Loc) (t u : List ℕ) → EndsLine t → EndsLine u → IfSome j IsNumber → IfSome k IsNumber → IsPrintableLoc l →
+    IsPrintableLoc m →
+    number_before j (location_before l t) ≡ number_before k (location_before m u) → (j ≡ k) × (l ≡ m) × (t ≡ u)
+numbers_one None None l m t u end ends small other is others e = let found = location_one l m t u end ends is others e in (refl, found.0, found.1)
+numbers_one None (Some k) l m t u end ends small other is others e = absurd (number_apart k l (decimal k ++ location_before m u) t end (sym e))
+numbers_one (Some j) None l m t u end ends small other is others e = absurd (number_apart j m (decimal j ++ location_before l t) u ends e)
+numbers_one (Some j) (Some k) l m t u end ends small other is others e =
+    let number = number_one j k (location_before l t) (location_before m u) small other (location_stops l t end) (location_stops m u ends)
     (front_one (codes ", debug-instr-number ") _ _ e) in
-    let found = location_one l m r s is others number.1 in
+    let found = location_one l m t u end ends is others number.1 in
     (some_number j k number.0, found.0, found.1)
 
 -- ---- values of marks, and places of phis, each before a comma
@@ -441,7 +470,7 @@ code_number (Mark v m) = None
 code_number (Phi p k) = None
 
 abbrev line_before : ItemKind → Loc → List ℕ → List ℕ
-line_before kind l rest = kind_before kind (location_before l (10 ∷ rest)) (number_before (code_number kind) (location_before l (10 ∷ rest)))
+line_before kind l end = kind_before kind (location_before l end) (number_before (code_number kind) (location_before l end))
 
 kind_is : (kind : ItemKind) (behind : List ℕ) → kind_text kind ++ behind ≡ kind_before kind behind (number_before (code_number kind) behind)
 kind_is (Code i k) behind = append_assoc (instruction_text i) (number_text k) behind ∙ ap (λ (t : List ℕ). instruction_text i ++ t) (number_is k behind)
@@ -451,10 +480,21 @@ kind_is (Phi p k) behind = phi_parts (codes "DBG_PHI ") (phi_place_text p) (code
     phi_parts : (a b c d rest : List ℕ) → (a ++ b ++ c ++ d) ++ rest ≡ a ++ (b ++ (c ++ (d ++ rest)))
     phi_parts a b c d rest = simp append_assoc
 
-line_is : (i : Item) (rest : List ℕ) → item_text i ++ 10 ∷ rest ≡ line_before i.kind i.loc rest
+-- an item's text, up to its memory operand, and the end of the line
+pub item_parts : (i : Item) (rest : List ℕ) →
+    item_text i ++ 10 ∷ rest ≡ kind_text i.kind ++ (location_text i.loc ++ ending (is_volatile_kind i.kind) rest)
+item_parts i rest = by (is_volatile_kind i.kind) where
+  by : (volatile : Bool) → with_memory_operand volatile (kind_text i.kind ++ location_text i.loc) ++ 10 ∷ rest ≡
+      kind_text i.kind ++ (location_text i.loc ++ ending volatile rest)
+  by true =
+      append_assoc (kind_text i.kind ++ location_text i.loc) (codes " :: (volatile load)") (10 ∷ rest)
+      ∙ append_assoc (kind_text i.kind) (location_text i.loc) (ending true rest)
+  by false = append_assoc (kind_text i.kind) (location_text i.loc) (10 ∷ rest)
+
+line_is : (i : Item) (rest : List ℕ) → item_text i ++ 10 ∷ rest ≡ line_before i.kind i.loc (ending (is_volatile_kind i.kind) rest)
 line_is i rest =
-    append_assoc (kind_text i.kind) (location_text i.loc) (10 ∷ rest) ∙
-    (ap (λ (t : List ℕ). kind_text i.kind ++ t) (location_is i.loc (10 ∷ rest)) ∙ kind_is i.kind (location_before i.loc (10 ∷ rest)))
+    let end : List ℕ = ending (is_volatile_kind i.kind) rest in
+    item_parts i rest ∙ (ap (λ (t : List ℕ). kind_text i.kind ++ t) (location_is i.loc end) ∙ kind_is i.kind (location_before i.loc end))
 
 variable_same : (v w : VarId) → IsNamed v w → v.inlined_at ≡ w.inlined_at → v ≡ w
 variable_same v w named inlined = λ k. record { node = named.node k; inlined_at = inlined k; fragment = named.fragment k }
@@ -476,21 +516,27 @@ phi_apart v m rest s e = apart 86 80 _ _ refl (front_one (codes "DBG_") _ (codes
 
 kind_one : (declared : Declared) (x y : ItemKind) (l m : Loc) (r s : List ℕ) → IsPrintableKind declared l x → IsPrintableKind declared m y → IsPrintableLoc l →
     IsPrintableLoc m →
-    line_before x l r ≡ line_before y m s → (x ≡ y) × (l ≡ m) × (r ≡ s)
+    line_before x l (ending (is_volatile_kind x) r) ≡ line_before y m (ending (is_volatile_kind y) s) → (x ≡ y) × (l ≡ m) × (r ≡ s)
 kind_one declared (Code i j) (Code h k) l m r s is others at ats e =
-    let code = instruction_one declared.objects i h _ _ is.0 others.0 (number_ends j l r) (number_ends k m s) e in
-    let rest = numbers_one j k l m r s is.1 others.1 at ats code.1 in
-    ((let first : i ≡ h = code.0 in let number : j ≡ k = rest.0 in cc), rest.1, rest.2)
+    let end = ending_ends i.volatile r in
+    let ends = ending_ends h.volatile s in
+    let code = instruction_one declared.objects i h _ _ is.0 others.0 (number_ends j l (ending i.volatile r) end)
+    (number_ends k m (ending h.volatile s) ends) e in
+    let rest = numbers_one j k l m (ending i.volatile r) (ending h.volatile s) end ends is.1 others.1 at ats code.2 in
+    let last = ending_one i.volatile h.volatile r s rest.2 in
+    ((let first : i ≡ h = λ n. record { op = code.0 n; operands = code.1 n; volatile = last.0 n } in let number : j ≡ k = rest.0 in cc), rest.1, last.1)
 kind_one declared (Mark v a) (Mark w b) l m r s is others at ats e =
     let mark = mark_one v w a b _ _ (sizes_of declared l v is.0) (sizes_of declared m w others.0) is.1 others.1 e in
-    let place = location_one l m r s at ats mark.2 in
+    let place = location_one l m (10 ∷ r) (10 ∷ s) (ending_ends false r) (ending_ends false s) at ats mark.2 in
     let variable : v ≡ w = variable_same v w mark.0 (is.0.inlined ∙ (ap (inlined_at declared.inlined) place.0 ∙ sym others.0.inlined)) in
-    ((let value : a ≡ b = mark.1 in cc), place.0, place.1)
+    ((let value : a ≡ b = mark.1 in cc), place.0, (ending_one false false r s place.1).1)
 kind_one declared (Phi p j) (Phi q k) l m r s is others at ats e =
+    let end = ending_ends false r in
+    let ends = ending_ends false s in
     let place = place_one p q _ _ is.0 others.0 refl refl (front_one (codes "DBG_PHI ") _ _ e) in
-    let number = number_one j k _ _ is.1 others.1 (location_stops l r) (location_stops m s) (front_one (codes ", ") _ _ place.1) in
-    let rest = location_one l m r s at ats number.1 in
-    ((let first : p ≡ q = place.0 in let second : j ≡ k = number.0 in cc), rest.0, rest.1)
+    let number = number_one j k _ _ is.1 others.1 (location_stops l (10 ∷ r) end) (location_stops m (10 ∷ s) ends) (front_one (codes ", ") _ _ place.1) in
+    let rest = location_one l m (10 ∷ r) (10 ∷ s) end ends at ats number.1 in
+    ((let first : p ≡ q = place.0 in let second : j ≡ k = number.0 in cc), rest.0, (ending_one false false r s rest.1).1)
 kind_one declared (Code i j) (Mark w b) l m r s is others at ats e = absurd (code_apart declared.objects i _ _ _ is.0 (mark_begins w b _).1 e)
 kind_one declared (Mark v a) (Code h k) l m r s is others at ats e = absurd (code_apart declared.objects h _ _ _ others.0 (mark_begins v a _).1 (sym e))
 kind_one declared (Code i j) (Phi q k) l m r s is others at ats e = absurd (instruction_begins declared.objects i _ _ is.0 e)

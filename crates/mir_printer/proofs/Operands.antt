@@ -7,6 +7,7 @@ use Rattle.std.specs.Fmt.{decimal}
 use Rattle.std.proofs.lemmas.Bool.{ltb-false, ne_eqb}
 use Rattle.rv64_instr.specs.declared.operand.Operand.{Operand}
 use Rattle.rv64_instr.specs.declared.operand.Operand.TheVariants.{Def, Use, ImplicitDef, ImplicitUse, Imm, Slot, Object, Part, Outgoing, Block, Symbol, Mask}
+use Rattle.rv64_instr.specs.declared.operand.Operand.TheVariants.{GlobalRegisters}
 use Rattle.mir_printer.specs.Spelling.{comma_separated, is_bare, is_definition, operand_text, register_text, uses_text}
 use Rattle.mir_printer.specs.Spelling.{linked_symbol_text, addend_text, half_text, part_text}
 use Rattle.rv64_instr.specs.declared.symbol.Symbol.{Symbol as Linked}
@@ -61,6 +62,7 @@ data Lead : Type 0 where
   at_implicit : Lead
   at_part : Lead
   at_outgoing : Lead
+  at_globals : Lead
   at_number : Lead
 
 abbrev after_percent : List ℕ → Lead
@@ -71,7 +73,7 @@ abbrev lead : List ℕ → Lead
 lead [] = at_number
 lead (b ∷ bs) = cond (nat_eq b 36) at_register (cond (nat_eq b 37) (after_percent bs)
     (cond (nat_eq b 64) at_symbol (cond (nat_eq b 109) at_mask (cond (nat_eq b 105) at_implicit (cond (nat_eq b 116) at_part
-    (cond (nat_eq b 111) at_outgoing at_number))))))
+    (cond (nat_eq b 111) at_outgoing (cond (nat_eq b 103) at_globals at_number)))))))
 
 abbrev lead_of : Operand → Lead
 lead_of (Def r) = at_register
@@ -83,6 +85,7 @@ lead_of (Slot n) = at_stack
 lead_of (Object n) = at_stack
 lead_of (Part half y) = at_part
 lead_of (Outgoing n) = at_outgoing
+lead_of GlobalRegisters = at_globals
 lead_of (Block n) = at_block
 lead_of (Symbol name) = at_symbol
 lead_of Mask = at_mask
@@ -101,6 +104,7 @@ number_lead b bs low high =
       ne_eqb b 116
           (λ e. omega arith),
       ne_eqb b 111 (λ e. omega arith),
+      ne_eqb b 103 (λ e. omega arith),
     ) refl
 
 register_lead : (p : Bool) (n : ℕ) (r : List ℕ) → IsNumber n → lead (register_by p n ++ r) ≡ at_register
@@ -119,11 +123,21 @@ lead_is (Part Upper y) r is = refl
 lead_is (Part Lower y) r is = refl
 lead_is _ r is = refl
 
+-- a text that begins with a colon
+abbrev pub begins_colon : List ℕ → Bool
+begins_colon [] = false
+begins_colon (b ∷ bs) = nat_eq b 58
+
+-- a text that begins with a blank that isn't before a colon, as that before a memory operand is
+abbrev pub blank_goes_on : List ℕ → Bool
+blank_goes_on [] = false
+blank_goes_on (b ∷ bs) = nat_eq b 32 && not (begins_colon bs)
+
 -- what may follow an operand
 pub record Follows (text : List ℕ) : Type 0 where
   pub digits : Stops is_digit text
   pub bare : Stops is_bare text
-  pub space : Stops (nat_eq 32) text
+  pub space : blank_goes_on text ≡ false
 
 same_lead : (o p : Operand) (r s : List ℕ) → IsUse o → IsUse p → operand_text o ++ r ≡ operand_text p ++ s → lead_of o ≡ lead_of p
 same_lead o p r s is others e = sym (lead_is o r is) ∙ (ap lead e ∙ lead_is p s others)
@@ -141,13 +155,9 @@ stack_one m n r s small other follow follows e =
 
 -- ---- halves of addresses
 
--- a text that doesn't begin with a blank is none that does
-no_space : (s t : List ℕ) → Stops (nat_eq 32) s → s ≡ 32 ∷ t → ⊥
-no_space [] t stop e = absurd cc
-no_space (b ∷ bs) t stop e =
-    let same : b ≡ 32 = cc in
-    let both : nat_eq 32 b ≡ true = ap (nat_eq 32) same in
-    absurd cc
+-- a text that begins with a blank and no colon is none that doesn't
+no_blank : (s t : List ℕ) → blank_goes_on s ≡ false → begins_colon t ≡ false → s ≡ 32 ∷ t → ⊥
+no_blank s t stop none e = let bad : false ≡ true = sym stop ∙ (ap blank_goes_on e ∙ ap not none) in cc
 
 halves_apart : (r s : List ℕ) → half_text Upper ++ r ≡ half_text Lower ++ s → ⊥
 halves_apart r s e =
@@ -172,12 +182,12 @@ negative n small = omega (arith, small)
 
 addend_one : (i j : ℤ) (r s : List ℕ) → IsSigned i → IsSigned j → Follows r → Follows s → addend_text i ++ r ≡ addend_text j ++ s → (i ≡ j) × (r ≡ s)
 addend_one (pos zero) (pos zero) r s small other follow follows e = (refl, e)
-addend_one (pos zero) (pos (suc n)) r s small other follow follows e = absurd (no_space r (codes "+ " ++ (decimal (suc n) ++ s)) follow.space e)
-addend_one (pos zero) (negsuc n) r s small other follow follows e = absurd (no_space r (codes "- " ++ (decimal (suc n) ++ s)) follow.space e)
+addend_one (pos zero) (pos (suc n)) r s small other follow follows e = absurd (no_blank r (codes "+ " ++ (decimal (suc n) ++ s)) follow.space refl e)
+addend_one (pos zero) (negsuc n) r s small other follow follows e = absurd (no_blank r (codes "- " ++ (decimal (suc n) ++ s)) follow.space refl e)
 addend_one (pos (suc m)) (pos zero) r s small other follow follows e =
-    absurd (no_space s (codes "+ " ++ (decimal (suc m) ++ r)) follows.space (sym e))
+    absurd (no_blank s (codes "+ " ++ (decimal (suc m) ++ r)) follows.space refl (sym e))
 addend_one (negsuc m) (pos zero) r s small other follow follows e =
-    absurd (no_space s (codes "- " ++ (decimal (suc m) ++ r)) follows.space (sym e))
+    absurd (no_blank s (codes "- " ++ (decimal (suc m) ++ r)) follows.space refl (sym e))
 addend_one (pos (suc m)) (pos (suc n)) r s small other follow follows e =
     let tails = front_one (codes " + ") (decimal (suc m) ++ r) (decimal (suc n) ++ s) e in
     let found = decimal_one (suc m) (suc n) r s (positive (suc m) small) (positive (suc n) other) follow.digits follows.digits tails in
@@ -253,6 +263,7 @@ operand_one (Outgoing m) (Outgoing n) r s is others follow follows e =
 operand_one (Symbol a) (Symbol b) r s is others follow follows e =
     let found = symbol_one a b r s follow.bare follows.bare e in (ap Symbol found.0, found.1)
 operand_one Mask Mask r s is others follow follows e = (refl, (let tails : r ≡ s = cc in tails))
+operand_one GlobalRegisters GlobalRegisters r s is others follow follows e = (refl, (let tails : r ≡ s = cc in tails))
 operand_one (ImplicitDef m) (ImplicitUse n) r s is others follow follows e = absurd (implicits m n r s e)
 operand_one (ImplicitUse m) (ImplicitDef n) r s is others follow follows e = absurd (implicits n m s r (sym e))
 operand_one o p r s is others follow follows e =
@@ -301,11 +312,27 @@ operand_goes_on (Part Upper y) r is = refl
 operand_goes_on (Part Lower y) r is = refl
 operand_goes_on _ r is = refl
 
+-- an operand doesn't begin with a colon
+number_no_colon : (b : ℕ) (bs : List ℕ) → 45 ≤ b → b ≤ 57 → begins_colon (b ∷ bs) ≡ false
+number_no_colon b bs low high = ne_eqb b 58 (λ e. omega arith)
+
+register_no_colon : (p : Bool) (n : ℕ) (r : List ℕ) → begins_colon (register_by p n ++ r) ≡ false
+register_no_colon true n r = refl
+register_no_colon false n r = refl
+
+operand_no_colon : (o : Operand) (r : List ℕ) → IsUse o → begins_colon (operand_text o ++ r) ≡ false
+operand_no_colon (Def n) r is = register_no_colon (nat_lt n 32) n r
+operand_no_colon (Use n) r is = register_no_colon (nat_lt n 32) n r
+operand_no_colon (Imm i) r is = let h = signed_head i r is.1 in ap begins_colon h.2 ∙ number_no_colon h.0 h.1 h.3 h.4
+operand_no_colon (Part Upper y) r is = refl
+operand_no_colon (Part Lower y) r is = refl
+operand_no_colon _ r is = refl
+
 -- what may follow an instruction's operands
 pub record IsTail (text : List ℕ) : Type 0 where
   pub follows : Follows text
   pub ends : goes_on text ≡ false
-  pub blank : Stops (nat_eq 32) text
+  pub blank : blank_goes_on text ≡ false
 
 follows_rest : (os : List Operand) (tail : List ℕ) → Follows tail → Follows (rest_text os tail)
 follows_rest [] tail is = is
@@ -327,11 +354,14 @@ rest_one (o ∷ os) (p ∷ ps) r s all others tail tails e =
     let rest = rest_one os ps r s all.1 others.1 tail tails first.1 in
     (let head : as_slot o ≡ as_slot p = first.0 in let more : map as_slot os ≡ map as_slot ps = rest.0 in cc, rest.1)
 
+uses_no_colon : (o : Operand) (os : List Operand) (r : List ℕ) → IsUse o → begins_colon (comma_separated (map operand_text (o ∷ os)) ++ r) ≡ false
+uses_no_colon o os r is = ap begins_colon (commas o os r) ∙ operand_no_colon o (rest_text os r) is
+
 pub uses_one : (os ps : List Operand) (r s : List ℕ) → AllUses os → AllUses ps → IsTail r → IsTail s → uses_text os ++ r ≡ uses_text ps ++ s →
     (map as_slot os ≡ map as_slot ps) × (r ≡ s)
 uses_one [] [] r s all others tail tails e = (refl, e)
-uses_one [] (p ∷ ps) r s all others tail tails e = absurd (no_space r (comma_separated (map operand_text (p ∷ ps)) ++ s) tail.blank e)
-uses_one (o ∷ os) [] r s all others tail tails e = absurd (no_space s (comma_separated (map operand_text (o ∷ os)) ++ r) tails.blank (sym e))
+uses_one [] (p ∷ ps) r s all others tail tails e = absurd (no_blank r (comma_separated (map operand_text (p ∷ ps)) ++ s) tail.blank (uses_no_colon p ps s others.0) e)
+uses_one (o ∷ os) [] r s all others tail tails e = absurd (no_blank s (comma_separated (map operand_text (o ∷ os)) ++ r) tails.blank (uses_no_colon o os r all.0) (sym e))
 uses_one (o ∷ os) (p ∷ ps) r s all others tail tails e =
     let after : comma_separated (map operand_text (o ∷ os)) ++ r ≡ comma_separated (map operand_text (p ∷ ps)) ++ s = cc in
     let found : operand_text o ++ rest_text os r ≡ operand_text p ++ rest_text ps s = sym (commas o os r) ∙ (after ∙ commas p ps s) in

@@ -2,7 +2,7 @@
 use Rattle.std.specs.Prelude.{◌≡◌, ℕ, pos, ◌<◌, ◌^◌, ◌++◌, ◌∷◌, Bool, true, false, List, All, map, Option, Some, None, IsTrue, IfSome}
 use Rattle.rv64_instr.specs.declared.operand.Operand.{Operand}
 use Rattle.rv64_instr.specs.declared.operand.Operand.TheVariants.{Def, Use, ImplicitDef, ImplicitUse, Imm, Slot as SlotOperand, Object, Part, Block, Symbol}
-use Rattle.rv64_instr.specs.declared.operand.Operand.TheVariants.{Outgoing}
+use Rattle.rv64_instr.specs.declared.operand.Operand.TheVariants.{Outgoing, GlobalRegisters}
 use Rattle.rv64_instr.specs.declared.operand.Operand.TheVariants.{Mask}
 use Rattle.rv64_instr.specs.declared.symbol.Symbol.{Symbol as Linked}
 use Rattle.rv64_instr.specs.declared.symbol.Symbol.TheVariants.{Global, Constant as PoolConstant}
@@ -47,6 +47,7 @@ HasNumbers (SlotOperand n) = IsNumber n
 HasNumbers (Object n) = IsNumber n
 HasNumbers (Part half y) = HasAddressNumbers y
 HasNumbers (Outgoing n) = IsNumber n
+HasNumbers GlobalRegisters = Unit {0}
 HasNumbers (Block n) = IsNumber n
 HasNumbers (Symbol name) = Unit {0}
 HasNumbers Mask = Unit {0}
@@ -62,6 +63,7 @@ IsAsDeclared objects (SlotOperand n) = objects n ≡ false
 IsAsDeclared objects (Object n) = objects n ≡ true
 IsAsDeclared objects (Part half y) = Unit {0}
 IsAsDeclared objects (Outgoing n) = Unit {0}
+IsAsDeclared objects GlobalRegisters = Unit {0}
 IsAsDeclared objects (Block n) = Unit {0}
 IsAsDeclared objects (Symbol name) = Unit {0}
 IsAsDeclared objects Mask = Unit {0}
@@ -77,6 +79,7 @@ as_slot (SlotOperand n) = SlotOperand n
 as_slot (Object n) = SlotOperand n
 as_slot (Part half y) = Part half y
 as_slot (Outgoing n) = Outgoing n
+as_slot GlobalRegisters = GlobalRegisters
 as_slot (Block n) = Block n
 as_slot (Symbol name) = Symbol name
 as_slot Mask = Mask

@@ -7,7 +7,7 @@ use Rattle.std.specs.Fmt.{decimal, signed_decimal}
 use Rattle.rv64_instr.specs.declared.op.Op.{Op}
 use Rattle.rv64_instr.specs.declared.operand.Operand.{Operand}
 use Rattle.rv64_instr.specs.declared.operand.Operand.TheVariants.{Def, Use, ImplicitDef, ImplicitUse, Imm, Slot as SlotOperand, Object, Part, Block, Symbol}
-use Rattle.rv64_instr.specs.declared.operand.Operand.TheVariants.{Outgoing}
+use Rattle.rv64_instr.specs.declared.operand.Operand.TheVariants.{Outgoing, GlobalRegisters}
 use Rattle.rv64_instr.specs.declared.operand.Operand.TheVariants.{Mask}
 use Rattle.rv64_instr.specs.declared.symbol.Symbol.{Symbol as Linked}
 use Rattle.rv64_instr.specs.declared.symbol.Symbol.TheVariants.{Global, Constant as PoolConstant}
@@ -16,7 +16,7 @@ use Rattle.rv64_instr.specs.declared.symbol.Half.{Half}
 use Rattle.rv64_instr.specs.declared.symbol.Half.TheVariants.{Upper, Lower}
 use Rattle.rv64_instr.specs.declared.place.Place.{Place}
 use Rattle.rv64_instr.specs.declared.place.Place.TheVariants.{Register, Slot, Const}
-use Rattle.rv64_instr.specs.Form.{has_register_callee}
+use Rattle.rv64_instr.specs.Form.{has_implicit_callee}
 use Rattle.rv64_instr.specs.Instruction.{Instruction}
 use Rattle.rv64_instr.specs.Mnemonic.{mnemonic_of}
 use Rattle.mir_func.specs.declared.location.Loc.{Loc}
@@ -94,6 +94,7 @@ operand_text (SlotOperand n) = codes "%stack." ++ decimal n
 operand_text (Object n) = codes "%stack." ++ decimal n
 operand_text (Part half y) = part_text half y
 operand_text (Outgoing n) = codes "outgoing(" ++ (decimal n ++ codes ")")
+operand_text GlobalRegisters = codes "globals"
 operand_text (Block n) = codes "%bb." ++ decimal n
 operand_text (Symbol name) = symbol_text name
 operand_text Mask = codes "mask"
@@ -109,6 +110,7 @@ is_definition (SlotOperand n) = false
 is_definition (Object n) = false
 is_definition (Part half y) = false
 is_definition (Outgoing n) = false
+is_definition GlobalRegisters = false
 is_definition (Block n) = false
 is_definition (Symbol name) = false
 is_definition Mask = false
@@ -132,18 +134,18 @@ abbrev pub callee_by : Option ℕ → Operand → Operand
 callee_by None o = o
 callee_by (Some r) o = Use r
 
--- an operand as the callee of a call by a register: its register prints as one that is read
+-- an operand as the callee of a call whose callee's register is an implicit use: it prints as one that is read
 abbrev pub as_callee : Operand → Operand
 as_callee o = callee_by (implicit_register o) o
 
--- the operands behind the opcode of a call by a register, of which the first is the callee
+-- the operands behind the opcode of such a call, of which the first is the callee
 abbrev pub held_uses : List Operand → List Operand
 held_uses [] = []
 held_uses (o ∷ os) = as_callee o ∷ filter (λ u. not (is_definition u)) os
 
 -- the operands behind an opcode
 abbrev pub uses_behind : Op → List Operand → List Operand
-uses_behind op os = cond (has_register_callee op) (held_uses os) (filter (λ u. not (is_definition u)) os)
+uses_behind op os = cond (has_implicit_callee op) (held_uses os) (filter (λ u. not (is_definition u)) os)
 
 -- an instruction: the registers that it sets and ` = `, its mnemonic, and its other operands
 abbrev pub instruction_text : Instruction → List ℕ
@@ -217,6 +219,16 @@ location_text (Node n) = codes ", debug-location !" ++ decimal n
 location_text (Inline l) = codes ", debug-location !DILocation(line: " ++ decimal l.line ++ codes ", column: " ++ decimal l.column ++ codes ", scope: !" ++
     decimal l.scope ++ inlined_at_text l.inlined_at ++ codes ")"
 
+-- code that is volatile
+abbrev pub is_volatile_kind : ItemKind → Bool
+is_volatile_kind (Code i k) = i.volatile
+is_volatile_kind (Mark v m) = false
+is_volatile_kind (Phi p k) = false
+
+-- the text of an item, and behind that of a volatile load its memory operand
+abbrev pub with_memory_operand : (volatile : Bool) → List ℕ → List ℕ
+with_memory_operand volatile text = cond volatile (text ++ codes " :: (volatile load)") text
+
 -- the item on its line
 abbrev pub item_text : Item → List ℕ
-item_text i = kind_text i.kind ++ location_text i.loc
+item_text i = with_memory_operand (is_volatile_kind i.kind) (kind_text i.kind ++ location_text i.loc)

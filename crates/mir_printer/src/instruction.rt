@@ -52,14 +52,14 @@ fn push_behind(text: &mut Text, op: Op, operands: &[Operand]) -> Result<(), Allo
     ensures ok { OnOk result (text.new ≡ text.old ++ uses_text (uses_behind op operands.now)) }
     ensures err { OnErr result (GrownFrom text.old text.new) }
 {
-    if op.has_register_callee() {
+    if op.has_implicit_callee() {
         push_held(text, operands)
     } else {
         push_uses(text, operands)
     }
 }
 
-/// Appends those of a call by a register.
+/// Appends those of a call whose callee's register is an implicit use.
 fn push_held(text: &mut Text, operands: &[Operand]) -> Result<(), AllocError>
     ensures ok { OnOk result (text.new ≡ text.old ++ uses_text (held_uses operands.now)) }
     ensures err { OnErr result (GrownFrom text.old text.new) }
@@ -110,6 +110,7 @@ fn implicit_register(operand: &Operand) -> Option<Reg>
         | Operand::Object(_)
         | Operand::Part(_, _)
         | Operand::Outgoing(_)
+        | Operand::GlobalRegisters
         | Operand::Block(_)
         | Operand::Symbol(_)
         | Operand::Mask => None,
@@ -169,6 +170,7 @@ fn is_definition(operand: &Operand) -> bool
         | Operand::Object(_)
         | Operand::Part(_, _)
         | Operand::Outgoing(_)
+        | Operand::GlobalRegisters
         | Operand::Block(_)
         | Operand::Symbol(_)
         | Operand::Mask => false,

@@ -27,6 +27,7 @@ pub(crate) fn push_operand(text: &mut Text, operand: &Operand) -> Result<(), All
         Operand::Object(n) => push_numbered(text, "%stack.", n.number()),
         Operand::Part(half, address) => push_part(text, *half, address),
         Operand::Outgoing(n) => push_outgoing(text, *n),
+        Operand::GlobalRegisters => push_str(text, "globals"),
         Operand::Block(n) => push_numbered(text, "%bb.", n.number()),
         Operand::Symbol(name) => push_symbol(text, name.as_slice()),
         Operand::Mask => push_str(text, "mask"),

@@ -5,6 +5,9 @@
 //! pair's end is found in a number of look-ups that grows with the logarithm of the number of entries at most.
 #![tactic(auto)]
 
+pub use mir_func as mir_func_crate;
+pub use mir_func::{base_ids_crate as base_ids_crate, base_list_crate as base_list_crate};
+
 pub mod chain;
 mod forest;
 pub mod substitutions;

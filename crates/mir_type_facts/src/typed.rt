@@ -115,7 +115,7 @@ fn operand_is_typed(operand: &Operand)
         Operand::Object(n) => object(*n),
         Operand::Part(_, address) => address_is_typed(address),
         Operand::Block(n) => block_number(*n),
-        Operand::Symbol(_) | Operand::Mask => {}
+        Operand::Symbol(_) | Operand::GlobalRegisters | Operand::Mask => {}
     }
 }
 

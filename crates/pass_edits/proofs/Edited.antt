@@ -10,17 +10,17 @@ use Rattle.mir_func.specs.Function.{Function}
 use Rattle.mir_func.specs.Sound.{IsSound}
 use Rattle.mir_func.specs.Resolve.{resolve}
 use Rattle.mir_func.specs.Graph.{Here, Program, program_of}
-use Rattle.sem_mir.specs.State.{Core, State}
-use Rattle.sem_mir.specs.Align.{is_jump, moves_on, Count, ByItems, ByEnds, sync_point_at, AnyOrigin, RunsMatch, since_of, waits_at}
-use Rattle.sem_mir.specs.InitialState.{first_of, IsInitialState}
-use Rattle.sem_mir.specs.Follow.{KindFits, MarkFits, OnRow, IsEnd}
-use Rattle.sem_mir.specs.Follow.{EndIsKept, EndComesFrom}
-use Rattle.pass_trait.specs.Change.{change}
-use Rattle.pass_trait.proofs.NopFollows.{moves_after}
-use Rattle.pass_salvage.proofs.Kin.{kin_fits, kin_marks, kin_goes, kin_end, kin_is_end}
+use Rattle.pass_salvage.specs.sem_mir.State.{Core, State}
+use Rattle.pass_salvage.specs.sem_mir.Align.{is_jump, moves_on, Count, ByItems, ByEnds, sync_point_at, AnyOrigin, RunsMatch, since_of, waits_at}
+use Rattle.pass_salvage.specs.sem_mir.InitialState.{first_of, IsInitialState}
+use Rattle.pass_salvage.specs.sem_mir.Follow.{KindFits, StaysVolatile, MarkFits, OnRow, IsEnd}
+use Rattle.pass_salvage.specs.sem_mir.Follow.{EndIsKept, EndComesFrom}
+use Rattle.pass_salvage.specs.pass_trait.Change.{change}
+use Rattle.pass_salvage.proofs.pass_trait.NopFollows.{moves_after}
+use Rattle.pass_salvage.proofs.Kin.{kin_fits, kin_volatile, kin_marks, kin_goes, kin_end, kin_is_end}
 use Rattle.pass_salvage.proofs.Edits.{Edits, BlocksEdited, item_back, item_on}
 use Rattle.pass_salvage.proofs.EditRuns.{Keeps, IsSteady, runs_edited}
-use Rattle.pass_salvage.proofs.EditFollows.{Allows, each_edited, end_is_code, debug_fits, among_edited, first_edited, length_edited, order_of}
+use Rattle.pass_salvage.proofs.EditFollows.{Allows, each_edited, end_is_code, debug_fits, debug_volatile, among_edited, first_edited, length_edited, order_of}
 use Rattle.pass_edits.specs.WeakSimulation.{LooseShape, PreservesWeakSimulation}
 
 module _ (E : Edits) (Q : E.Stage → Core → Core → Type 0) (allows : Allows E) (old new : Function) (sound : IsSound old) (sound' : IsSound new)
@@ -47,6 +47,9 @@ module _ (E : Edits) (Q : E.Stage → Core → Core → Type 0) (allows : Allows
           (λ a b x y s origin kin h. subst (λ (n : ℕ). KindFits srcp y.kind n y.origin) (sym s)
           (subst (λ o. KindFits srcp y.kind a.source_end o) origin (kin_fits srcp x.kind y.kind kin a.source_end x.origin h)))
           (λ k k' b x y how no_code. debug_fits srcp y.kind b.source_end y.origin no_code) old.blocks new.blocks edited shape.items;
+      volatile = each_edited E (λ b i. StaysVolatile srcp i.kind i.origin)
+          (λ a b x y s origin kin h. subst (λ o. StaysVolatile srcp y.kind o) origin (kin_volatile srcp x.kind y.kind kin x.origin h))
+          (λ k k' b x y how no_code. debug_volatile srcp y.kind y.origin no_code) old.blocks new.blocks edited shape.volatile;
       marks = each_edited E (λ b i. MarkFits i.kind i.origin)
           (λ a b x y s origin kin h. subst (λ o. MarkFits y.kind o) origin (kin_marks x.kind y.kind kin x.origin h))
           (λ k k' b x y how no_code. allows.marks k k' y how no_code) old.blocks new.blocks edited shape.marks;

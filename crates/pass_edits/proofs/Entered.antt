@@ -3,9 +3,9 @@ use Rattle.std.proofs.Common.{◌≡◌, ℕ, List, [], ◌∷◌, ◌++◌, Boo
 use Rattle.mir_func.specs.declared.debug_substitution.DebugSubstitution.{DebugSubstitution}
 use Rattle.mir_func.specs.declared.debug_substitution.OperandPair.{OperandPair}
 use Rattle.mir_func.specs.Resolve.{is_pair, entry_of}
-use Rattle.pass_trait.specs.Rule.{first_operand}
+use Rattle.pass_salvage.specs.pass_trait.Rule.{first_operand}
 use Rattle.pass_salvage.specs.Salvage.{entry_for}
-use Rattle.mir_substitution.proofs.Entries.{is_pair-same, entry_of-push}
+use Rattle.pass_salvage.proofs.mir_substitution.Entries.{is_pair-same, entry_of-push}
 
 pub entered_more : (subs more : List DebugSubstitution) (q : OperandPair) (e : DebugSubstitution) → entry_of subs q ≡ Some e →
     entry_of (subs ++ more) q ≡ Some e

@@ -6,8 +6,8 @@ use Rattle.std.proofs.lemmas.List.Elements.{All-nil, All-cons}
 use Rattle.rv64_instr.specs.declared.operand.Operand.{Operand}
 use Rattle.rv64_instr.specs.declared.place.Place.TheVariants.{Register}
 use Rattle.mir_func.specs.declared.item.Item.{Item}
-use Rattle.sem_mir.specs.Step.{defined}
-use Rattle.pass_trait.specs.Causes.{defines}
+use Rattle.pass_salvage.specs.sem_mir.Step.{defined}
+use Rattle.pass_salvage.specs.pass_trait.Causes.{defines}
 use Rattle.pass_salvage.specs.Salvage.{with_number, numbered_at}
 use Rattle.pass_salvage.specs.SalvageAction.{further, last_definition, is_register, here_or, first_definition}
 

@@ -12,3 +12,4 @@ pub mod Found
 pub mod ToPhi
 pub mod ToCode
 pub mod Entered
+pub use Rattle.pass_salvage.proofs.sem_agreement as sem_agreement

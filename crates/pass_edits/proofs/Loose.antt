@@ -3,8 +3,8 @@ use Rattle.std.specs.Prelude.{List}
 use Rattle.mir_func.specs.declared.debug_substitution.DebugSubstitution.{DebugSubstitution}
 use Rattle.mir_func.specs.Function.{Function}
 use Rattle.mir_func.specs.Sound.{IsSound}
-use Rattle.pass_trait.specs.Change.{change}
-use Rattle.pass_trait.specs.Simulation.{Source, SimulatesSource}
+use Rattle.pass_salvage.specs.pass_trait.Change.{change}
+use Rattle.pass_salvage.specs.pass_trait.Simulation.{Source, SimulatesSource}
 use Rattle.pass_edits.specs.WeakSimulation.{WeakSimulation, PreservesWeakSimulation}
 
 -- what follows a source follows it loosely
@@ -17,6 +17,7 @@ loosely f subs src fol = record {
     back = fol.follows.shape.back;
     order = fol.follows.shape.order;
     items = fol.follows.shape.items;
+    volatile = fol.follows.shape.volatile;
     marks = fol.follows.shape.marks;
   };
   runs = fol.follows.runs;

@@ -6,7 +6,7 @@ use Rattle.mir_func.specs.declared.item.Item.{Item}
 use Rattle.mir_func.specs.Function.{Function}
 use Rattle.mir_func.specs.Resolve.{resolve}
 use Rattle.mir_func.specs.Graph.{Program, program_of}
-use Rattle.sem_mir.specs.Follow.{MarkFits}
+use Rattle.pass_salvage.specs.sem_mir.Follow.{MarkFits}
 use Rattle.pass_salvage.specs.Salvage.{entry_for}
 use Rattle.pass_salvage.proofs.EditFollows.{Allows}
 use Rattle.pass_salvage.proofs.OneMore.{one_more}

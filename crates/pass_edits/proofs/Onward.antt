@@ -13,10 +13,10 @@ use Rattle.mir_func.specs.declared.item.ItemKind.TheVariants.{Code, Mark, Phi}
 use Rattle.mir_func.specs.Exits.{row_exit, exit_of, IsAlways}
 use Rattle.mir_func.specs.Graph.{Program}
 use Rattle.mir_func.specs.Sound.{IsJumpAtMost, MayFollow, EndsWell}
-use Rattle.sem_mir.specs.State.{Core, Reply}
-use Rattle.sem_mir.specs.Step.{Outcome, Falls, Goes, Gives, Traps, Asks, Breaks, act, does, are_written, with_core, numbered, slot_loaded, called_at}
-use Rattle.sem_mir.specs.Step.{exec_external_call, passed, call_faults, do_item}
-use Rattle.sem_mir.specs.Step.{is_fault, address_at}
+use Rattle.pass_salvage.specs.sem_mir.State.{Core, Reply}
+use Rattle.pass_salvage.specs.sem_mir.Step.{Outcome, Falls, Goes, Gives, Traps, Asks, Breaks, act, does, are_written, with_core, numbered, slot_loaded, called_at}
+use Rattle.pass_salvage.specs.sem_mir.Step.{exec_external_call, passed, call_faults, do_item}
+use Rattle.pass_salvage.specs.sem_mir.Step.{is_fault, address_at}
 use Rattle.pass_edits.specs.Edits.{IsMove}
 
 -- it goes to no block

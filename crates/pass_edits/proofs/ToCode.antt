@@ -23,11 +23,11 @@ use Rattle.mir_func.specs.Function.{Function}
 use Rattle.mir_func.specs.Graph.{Program, program_of}
 use Rattle.mir_func.specs.Resolve.{is_pair, entry_of, resolve}
 use Rattle.mir_func.specs.Sound.{items_of, LeavesPointer, IsSound, NumbersOnce}
-use Rattle.sem_mir.specs.Step.{defined}
-use Rattle.sem_mir.specs.Live.{KindDefines}
-use Rattle.pass_trait.specs.Causes.{defines}
-use Rattle.pass_trait.specs.Rule.{item, first_operand}
-use Rattle.mir_substitution.proofs.Entries.{is_pair-same}
+use Rattle.pass_salvage.specs.sem_mir.Step.{defined}
+use Rattle.pass_salvage.specs.sem_mir.Live.{KindDefines}
+use Rattle.pass_salvage.specs.pass_trait.Causes.{defines}
+use Rattle.pass_salvage.specs.pass_trait.Rule.{item, first_operand}
+use Rattle.pass_salvage.proofs.mir_substitution.Entries.{is_pair-same}
 use Rattle.pass_salvage.specs.Salvage.{numbered_at, entry_for}
 use Rattle.pass_salvage.specs.SalvageAction.{has_entry, or_fresh, asks_for, is_just}
 use Rattle.pass_salvage.proofs.Chosen.{IsEntered}
@@ -300,9 +300,9 @@ module _ (f : Function) (above : List Block) (id source_end : ℕ) (behind : Lis
           (subst (λ (xs : List Item). Edited E Outside xs ((up ++ given ∷ between) ++ bare ∷ down)) (sym moved)
           (subst (λ (ys : List Item). Edited E Outside (up ++ giver ∷ (between ++ copy ∷ down)) ys) (sym (append_assoc up (given ∷ between) (bare ∷ down)))
           (stays_above E Outside up (giver ∷ (between ++ copy ∷ down)) (given ∷ (between ++ bare ∷ down)) (outsiders up up_k of_giver.up under_up)
-          (pair refl (code_kin (row_itself (row_of j))) opening
+          (pair refl (code_kin (row_itself (row_of j)) refl) opening
           (stays_above E Inside between (copy ∷ down) (bare ∷ down) insiders
-          (pair refl (code_kin (row_itself (row_of i))) (closes row plain.first plain.target)
+          (pair refl (code_kin (row_itself (row_of i)) refl) (closes row plain.first plain.target)
           (stays_items E Outside down tt (outsiders down of_copy.down down_n under.down))))))))
           (stays_blocks E (λ m. tt) behind (block_outsiders behind of_copy.behind of_giver.behind under.behind)));
     }

@@ -13,7 +13,7 @@ use Rattle.mir_func.specs.Function.{Function}
 use Rattle.mir_func.specs.Graph.{Program, program_of}
 use Rattle.mir_func.specs.Resolve.{resolve}
 use Rattle.mir_func.specs.Sound.{LeavesPointer, IsSound}
-use Rattle.pass_trait.specs.Rule.{item}
+use Rattle.pass_salvage.specs.pass_trait.Rule.{item}
 use Rattle.pass_salvage.proofs.Kin.{row_itself, code_kin}
 use Rattle.pass_salvage.proofs.Edits.{Edits, pair, put}
 use Rattle.pass_salvage.proofs.NumberPhi.{Elsewhere, PhiPair, elsewhere, closes, puts, phi_edits}
@@ -63,7 +63,7 @@ module _ (f : Function) (above : List Block) (id source_end : ℕ) (behind : Lis
         follows = number_to_phi old new subs k s plain.source sound sound' refl
             (around E above id source_end (up ++ x ∷ down) (up ++ phi_for k s o ∷ y ∷ down) (stays_blocks E (λ n. tt) above (each above far.above))
             (stays_above E Elsewhere up (x ∷ down) (phi_for k s o ∷ y ∷ down) (all up far.up)
-            (put refl refl puts (pair refl (code_kin (row_itself (row_of i))) (closes row plain.first plain.target)
+            (put refl refl puts (pair refl (code_kin (row_itself (row_of i)) refl) (closes row plain.first plain.target)
             (stays_items E Elsewhere down tt (all down far.down)))))
             (stays_blocks E (λ n. tt) behind (each behind far.behind)));
       }

@@ -13,8 +13,8 @@ use Rattle.mir_func.specs.declared.item.ItemKind.TheVariants.{Code, Mark, Phi}
 use Rattle.mir_func.specs.declared.variable.MarkValue.TheVariants.{Nothing, Constant, At, Pair}
 use Rattle.mir_func.specs.Resolve.{is_pair, entry_of, resolve, Ends, at, by}
 use Rattle.mir_func.specs.Sound.{items_of}
-use Rattle.pass_trait.specs.Sizes.{greatest, numbers_of}
-use Rattle.mir_substitution.proofs.Chains.{resolve_ends}
+use Rattle.pass_salvage.specs.pass_trait.Sizes.{greatest, numbers_of}
+use Rattle.pass_salvage.proofs.mir_substitution.Chains.{resolve_ends}
 use Rattle.pass_edits.proofs.Numbers.{IsUnlike, all_first, all_second}
 
 -- the numbers of an item, and of a substitution

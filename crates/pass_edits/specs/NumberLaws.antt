@@ -6,8 +6,8 @@ use Rattle.mir_func.specs.Sound.{IsSound}
 use Rattle.mir_func.specs.Graph.{program_of}
 use Rattle.mir_func.specs.Resolve.{entry_of, resolve}
 use Rattle.std.proofs.Common.{refl}
-use Rattle.pass_trait.specs.Change.{change}
-use Rattle.pass_trait.specs.Rule.{first_operand}
+use Rattle.pass_salvage.specs.pass_trait.Change.{change}
+use Rattle.pass_salvage.specs.pass_trait.Rule.{first_operand}
 use Rattle.pass_salvage.specs.Salvage.{entry_for}
 use Rattle.pass_salvage.proofs.Edits.{BlocksEdited}
 use Rattle.pass_salvage.proofs.NumberOff.{off_edits}

@@ -8,12 +8,12 @@ use Rattle.mir_func.specs.declared.debug_substitution.DebugSubstitution.{DebugSu
 use Rattle.mir_func.specs.Function.{Function}
 use Rattle.mir_func.specs.Graph.{Program, Here, block_start, program_of, Edge, Leads}
 use Rattle.mir_func.specs.Resolve.{resolve}
-use Rattle.sem_mir.specs.State.{State}
-use Rattle.sem_mir.specs.Align.{ByItems, sync_point_at, AnyOrigin, RunsMatch}
-use Rattle.sem_mir.specs.InitialState.{first_of, IsInitialState}
-use Rattle.sem_mir.specs.Follow.{Among, InOrder, KindFits, MarkFits, OnRow, GoesTo}
-use Rattle.pass_trait.specs.Change.{Change}
-use Rattle.pass_trait.specs.Simulation.{Source, EndsAsSource}
+use Rattle.pass_salvage.specs.sem_mir.State.{State}
+use Rattle.pass_salvage.specs.sem_mir.Align.{ByItems, sync_point_at, AnyOrigin, RunsMatch}
+use Rattle.pass_salvage.specs.sem_mir.InitialState.{first_of, IsInitialState}
+use Rattle.pass_salvage.specs.sem_mir.Follow.{Among, InOrder, KindFits, StaysVolatile, MarkFits, OnRow, GoesTo}
+use Rattle.pass_salvage.specs.pass_trait.Change.{Change}
+use Rattle.pass_salvage.specs.pass_trait.Simulation.{Source, EndsAsSource}
 
 -- the shape of a simulated function, without the condition on slot stores
 pub record LooseShape (src f : List Block) (srcp fp : Program) : Type 0 where
@@ -23,6 +23,7 @@ pub record LooseShape (src f : List Block) (srcp fp : Program) : Type 0 where
       (p : Pos) × (i : Item) × (fp.fetch p ≡ Here i) × OnRow (GoesTo (first_of src)) i.kind
   pub order : All (λ b. InOrder b.id 0 b.items) f
   pub items : All (λ b. All (λ i. KindFits srcp i.kind b.source_end i.origin) b.items) f
+  pub volatile : All (λ b. All (λ i. StaysVolatile srcp i.kind i.origin) b.items) f
   pub marks : All (λ b. All (λ i. MarkFits i.kind i.origin) b.items) f
 
 -- the source weakly simulates the function with its substitutions

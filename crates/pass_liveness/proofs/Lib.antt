@@ -12,3 +12,5 @@ pub mod Answers
 pub mod Ready
 pub mod Stripped
 mod Passing
+pub use Rattle.mir_func.proofs as mir_func
+pub use Rattle.sem_mir.proofs as sem_mir

@@ -25,6 +25,12 @@ is_among (Register r) numbers = list_any (nat_eq r) numbers
 is_among (Slot n) numbers = false
 is_among (Const c) numbers = false
 
+-- the place is a register that the operand reads implicitly
+abbrev pub is_read : Place → Operand → Bool
+is_read (Register r) operand = is_implicit_use r operand
+is_read (Slot n) operand = false
+is_read (Const c) operand = false
+
 -- the place is a register that some operand reads implicitly
 abbrev pub reads_implicitly : Place → List Operand → Bool
 reads_implicitly (Register r) operands = list_any (is_implicit_use r) operands

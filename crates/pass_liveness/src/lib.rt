@@ -6,6 +6,9 @@
 //! computed from the block's end upwards, item by item, with the same transfer step.
 #![tactic(auto)]
 
+pub use mir_func as mir_func_crate;
+pub use rv64_instr as rv64_instr_crate;
+
 pub mod index;
 pub mod live;
 pub mod names;

@@ -8,13 +8,13 @@ ghost use Rattle.rv64_instr.specs.LocationEffects.{uses_of, defines_of, is_passe
 ghost use Rattle.mir_func.specs.Sound.{SlotIn, PassedIn, SlotsIn};
 ghost use Rattle.pass_liveness.specs.Sets.{has};
 ghost use Rattle.pass_liveness.specs.Walk.{live_before};
-ghost use Rattle.pass_liveness.specs.Steps.{place_defined, reads_implicitly, is_among};
+ghost use Rattle.pass_liveness.specs.Steps.{place_defined, reads_implicitly, is_read, is_among};
 
 use crate::names::SlotAndBlockNumbers;
 use crate::set::PlaceSet;
 use mir_func::item::ItemKind;
 use rv64_instr::decoded::Decoded;
-use rv64_instr::effects::CALLER_SAVED;
+use rv64_instr::effects::{CALLER_SAVED, GLOBAL_REGISTERS};
 use rv64_instr::instr::Instr;
 use rv64_instr::operand::Operand;
 use rv64_instr::place::Place;
@@ -60,11 +60,12 @@ impl SlotAndBlockNumbers {
         let decoded = i.decoded();
         let operands = i.operands.as_slice();
         match decoded {
-            Decoded::Calls(_) => {
+            Decoded::Calls(callee) => {
                 self.remove_registers(set, &CALLER_SAVED);
                 self.remove_passed(set, operands);
                 self.insert_implicit(set, operands);
                 self.insert_passed(set, operands);
+                self.insert(set, callee.place());
             }
             Decoded::Returns(_) => {
                 self.insert_implicit(set, operands);
@@ -170,9 +171,18 @@ impl SlotAndBlockNumbers {
             has self.now.slots set.new x ≡ (reads_implicitly x operands.now || has self.now.slots set.old x) }
     {
         for operand in operands {
-            if let Operand::ImplicitUse(r) = operand {
-                self.insert(set, Some(Place::Register(*r)));
-            }
+            self.insert_read(set, operand);
+        }
+    }
+
+    /// Adds the registers that an operand reads implicitly.
+    fn insert_read(&self, set: &mut PlaceSet, operand: &Operand)
+        ensures { (x : Place) → has self.now.slots set.new x ≡ (is_read x operand.now || has self.now.slots set.old x) }
+    {
+        match operand {
+            Operand::ImplicitUse(r) => self.insert(set, Some(Place::Register(*r))),
+            Operand::GlobalRegisters => self.insert_registers(set, &GLOBAL_REGISTERS),
+            _ => {}
         }
     }
 

@@ -9,7 +9,7 @@ use Rattle.std.proofs.lemmas.Bool.{and_parts}
 use Rattle.std.proofs.lemmas.Cmp.{ranked}
 use Rattle.std.proofs.lemmas.List.Elements.{All-nil, All-cons}
 use Rattle.std.proofs.lemmas.List.Kept.{AllPairs-cons}
-use Rattle.mir_func.specs.declared.position.Pos.{Pos}
+use Rattle.pass_trait.specs.mir_func.declared.position.Pos.{Pos}
 use Rattle.pass_trait.specs.declared.loss.Loss.{Loss}
 use Rattle.pass_trait.specs.declared.loss.Lost.{Lost}
 use Rattle.pass_trait.specs.declared.loss.Lost.TheVariants.{Number, Mark, Register}

@@ -13,20 +13,20 @@ use Rattle.mir_func.specs.declared.item.ItemKind.{ItemKind}
 use Rattle.mir_func.specs.declared.item.ItemKind.TheVariants.{Code, Mark, Phi}
 use Rattle.mir_func.specs.declared.position.Pos.{Pos}
 use Rattle.pass_trait.specs.Change.{Change}
-use Rattle.pass_salvage.specs.declared.salvage_action.SalvageAction.{SalvageAction}
-use Rattle.pass_salvage.specs.declared.salvage_action.SalvageAction.TheVariants.{HasEntry, GetsEntry, GetsPhi}
-use Rattle.pass_salvage.specs.SalvageAction.{salvage_action}
-use Rattle.pass_salvage.specs.Salvage.{put_for}
-use Rattle.copyprop_block.specs.declared.copies.CopyAction.{CopyAction}
-use Rattle.copyprop_block.specs.declared.copies.CopyAction.TheVariants.{Stays, Goes, GoesWith}
-use Rattle.copyprop_block.specs.declared.roots.Root.{Root}
-use Rattle.copyprop_block.specs.Roots.{known_source}
-use Rattle.copyprop_block.specs.Copied.{SoFar, BlocksSoFar, renamed_item, goes_by, fate_of, next_item, at_block, next_block}
+use Rattle.spill_pass.specs.pass_salvage.declared.salvage_action.SalvageAction.{SalvageAction}
+use Rattle.spill_pass.specs.pass_salvage.declared.salvage_action.SalvageAction.TheVariants.{HasEntry, GetsEntry, GetsPhi}
+use Rattle.spill_pass.specs.pass_salvage.SalvageAction.{salvage_action}
+use Rattle.spill_pass.specs.pass_salvage.Salvage.{put_for}
+use Rattle.copyprop_pass.specs.copyprop_block.declared.copies.CopyAction.{CopyAction}
+use Rattle.copyprop_pass.specs.copyprop_block.declared.copies.CopyAction.TheVariants.{Stays, Goes, GoesWith}
+use Rattle.copyprop_pass.specs.copyprop_block.declared.roots.Root.{Root}
+use Rattle.copyprop_pass.specs.copyprop_block.Roots.{known_source}
+use Rattle.copyprop_pass.specs.copyprop_block.Copied.{SoFar, BlocksSoFar, renamed_item, goes_by, fate_of, next_item, at_block, next_block}
 use Rattle.rv64_instr.proofs.Moves.{moves_by}
-use Rattle.copyprop_rule.proofs.Sizes.{known_moves}
-use Rattle.copyprop_rule.specs.Rule.{begins}
-use Rattle.copyprop_proof.specs.Ledger.{Line, numbered_in, numbered_line, lines_above, phi_of, line, lines_by_fate, next_lines, over_lines, lines_in, ledger}
-use Rattle.copyprop_proof.specs.Rule.{copy_step}
+use Rattle.copyprop_pass.proofs.copyprop_rule.Sizes.{known_moves}
+use Rattle.copyprop_pass.specs.copyprop_rule.Rule.{begins}
+use Rattle.copyprop_pass.specs.copyprop_proof.Ledger.{Line, numbered_in, numbered_line, lines_above, phi_of, line, lines_by_fate, next_lines, over_lines, lines_in, ledger}
+use Rattle.copyprop_pass.specs.copyprop_proof.Rule.{copy_step}
 use Rattle.pass_manager.specs.Shown.{IsGiven}
 
 -- the register of its phi isn't x0

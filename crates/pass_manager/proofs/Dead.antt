@@ -13,15 +13,15 @@ use Rattle.mir_func.specs.declared.item.ItemKind.{ItemKind}
 use Rattle.mir_func.specs.declared.item.ItemKind.TheVariants.{Code, Mark, Phi}
 use Rattle.mir_func.specs.declared.position.Pos.{Pos}
 use Rattle.pass_trait.specs.Change.{Change}
-use Rattle.pass_salvage.specs.declared.salvage_action.SalvageAction.{SalvageAction}
-use Rattle.pass_salvage.specs.declared.salvage_action.SalvageAction.TheVariants.{HasEntry, GetsEntry, GetsPhi}
-use Rattle.pass_salvage.specs.SalvageAction.{salvage_action}
+use Rattle.spill_pass.specs.pass_salvage.declared.salvage_action.SalvageAction.{SalvageAction}
+use Rattle.spill_pass.specs.pass_salvage.declared.salvage_action.SalvageAction.TheVariants.{HasEntry, GetsEntry, GetsPhi}
+use Rattle.spill_pass.specs.pass_salvage.SalvageAction.{salvage_action}
 use Rattle.rv64_instr.proofs.Moves.{moves_by}
-use Rattle.dce_salvage.specs.declared.salvage_numbers.Copied.{Copied}
-use Rattle.dce_salvage.specs.SalvageNumbers.{copied_by, numbered_copy, SoFar, salvage_at}
-use Rattle.pass_salvage.specs.SalvageAction.{going_from}
-use Rattle.dce_salvage.specs.SalvageBlocks.{BlocksSoFar, in_block, salvage_blocks}
-use Rattle.dce_salvage_proof.specs.SalvageLaws.{begins_off}
+use Rattle.dce_pass.specs.dce_salvage.declared.salvage_numbers.Copied.{Copied}
+use Rattle.dce_pass.specs.dce_salvage.SalvageNumbers.{copied_by, numbered_copy, SoFar, salvage_at}
+use Rattle.spill_pass.specs.pass_salvage.SalvageAction.{going_from}
+use Rattle.dce_pass.specs.dce_salvage.SalvageBlocks.{BlocksSoFar, in_block, salvage_blocks}
+use Rattle.dce_pass.specs.dce_salvage_proof.SalvageLaws.{begins_off}
 use Rattle.dce_pass.specs.SalvageLedger.{Line, line_by, line_of, line_of_copy, lines_of, lines_down, lines_in, ledger}
 use Rattle.dce_pass.specs.DebugRule.{dead_rule}
 use Rattle.pass_manager.specs.Shown.{IsGiven}

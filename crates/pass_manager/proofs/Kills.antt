@@ -12,9 +12,9 @@ use Rattle.mir_func.specs.declared.variable.MarkValue.TheVariants.{Nothing}
 use Rattle.mir_func.specs.declared.variable.VarId.{VarId}
 use Rattle.mir_func.specs.Sound.{items_of}
 use Rattle.pass_trait.specs.Change.{Change}
-use Rattle.fold_proof.specs.Debug.{AreKills, fold_step}
-use Rattle.fold_rule_proof.specs.Kills.{kill_by, kills}
-use Rattle.fold_rule_proof.proofs.Kills.{ComesFrom, each_from}
+use Rattle.fold_pass.specs.fold_proof.Debug.{AreKills, fold_step}
+use Rattle.fold_pass.specs.fold_rule_proof.Kills.{kill_by, kills}
+use Rattle.fold_pass.proofs.fold_rule_proof.Kills.{ComesFrom, each_from}
 use Rattle.pass_manager.proofs.Becoming.{WasShown}
 
 -- an item of a block is one of the function

@@ -6,3 +6,4 @@ mod Dead
 mod Kills
 mod Passes
 mod Whole
+mod Sharing

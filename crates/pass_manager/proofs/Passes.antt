@@ -6,15 +6,15 @@ use Rattle.mir_func.specs.Function.{Function}
 use Rattle.pass_trait.specs.Change.{Change}
 use Rattle.pass_trait.specs.declared.loss.Loss.{Loss}
 use Rattle.pass_trait.specs.Steps.{KeepsSteps}
-use Rattle.copyprop_proof.specs.Rule.{copy_step}
+use Rattle.copyprop_pass.specs.copyprop_proof.Rule.{copy_step}
 use Rattle.dce_pass.specs.DebugRule.{dead_rule}
 use Rattle.dce_pass.specs.Steps.{repeated, round_step, most_rounds}
-use Rattle.fold_proof.specs.Debug.{fold_step}
+use Rattle.fold_pass.specs.fold_proof.Debug.{fold_step}
 use Rattle.pass_list.specs.declared.kind.PassKind.{PassKind}
 use Rattle.pass_list.specs.declared.kind.PassKind.TheVariants.{Copy, Remat, Spill, Dead, Fold}
 use Rattle.remat_pass.specs.Pass.{remat_step}
 use Rattle.spill_pass.specs.Reserve.{reserve_of}
-use Rattle.spill_proof.specs.Step.{spill_step}
+use Rattle.spill_pass.specs.spill_proof.Step.{spill_step}
 use Rattle.pass_manager.specs.Passes.{steps_of_pass}
 use Rattle.pass_manager.specs.Shown.{KeepsShown}
 use Rattle.pass_manager.proofs.Becoming.{WasShown}

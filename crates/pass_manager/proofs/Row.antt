@@ -7,22 +7,22 @@ use Rattle.mir_func.specs.Limits.{MAX_BLOCKS, MAX_SLOTS}
 use Rattle.pass_trait.specs.Change.{Change, change}
 use Rattle.pass_trait.specs.declared.loss.Loss.{Loss}
 use Rattle.pass_trait.specs.Sizes.{greatest, greatest_number, most, item_count, code_count, KeepsSizes}
-use Rattle.pass_trait.specs.Steps.{KeepsSteps}
+use Rattle.pass_trait.specs.Steps.{PassStep, KeepsSteps}
 use Rattle.pass_trait.proofs.Composition.{steps_then}
 use Rattle.pass_list.specs.declared.kind.PassKind.{PassKind}
-use Rattle.pass_manager.specs.Passes.{steps_of_pass, steps_of, passes_of, factor, count, most_after, numbers_after, slots_after, KeepsGrowth}
+use Rattle.pass_manager.specs.Passes.{joined, factor, count, most_after, numbers_after, slots_after, KeepsGrowth}
 use Rattle.pass_manager.specs.Shown.{KeepsShown}
 use Rattle.pass_manager.specs.Told.{KeepsPasses}
 
 -- ---- steps
 
 -- passes that keep their steps keep those of all, with losses of which they are told
-pub told_steps : (reserve : List ℕ) (ps : List PassKind) (c : Change) (told : List Loss) → KeepsPasses (passes_of reserve ps) c told →
-    (lost : List Loss) × KeepsSteps (steps_of reserve ps) c lost
-told_steps reserve [] c told k = ([], (k.0, k.1, refl))
-told_steps reserve (p ∷ ps) c told (g, gs, here, later, k, rest, e) =
-    let more = told_steps reserve ps (record c { old = g; old_subs = gs }) later rest in
-    (k.lost ++ more.0, steps_then (steps_of_pass reserve p) (steps_of reserve ps) c.old c.old_subs g gs c.new c.new_subs k.lost more.0 k.kept more.1)
+pub told_steps : (passes : List (List PassStep)) (c : Change) (told : List Loss) → KeepsPasses passes c told →
+    (lost : List Loss) × KeepsSteps (joined passes) c lost
+told_steps [] c told k = ([], (k.0, k.1, refl))
+told_steps (steps ∷ passes) c told (g, gs, here, later, k, rest, e) =
+    let more = told_steps passes (record c { old = g; old_subs = gs }) later rest in
+    (k.lost ++ more.0, steps_then steps (joined passes) c.old c.old_subs g gs c.new c.new_subs k.lost more.0 k.kept more.1)
 
 -- ---- sizes
 

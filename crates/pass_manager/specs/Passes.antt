@@ -4,14 +4,14 @@ use Rattle.mir_func.specs.Limits.{MAX_SLOTS}
 use Rattle.pass_trait.specs.Change.{Change}
 use Rattle.pass_trait.specs.Sizes.{greatest, greatest_number, item_count, code_count, call_count, IsPhysical, most}
 use Rattle.pass_trait.specs.Steps.{PassStep}
-use Rattle.copyprop_proof.specs.Rule.{copy_step}
+use Rattle.copyprop_pass.specs.copyprop_proof.Rule.{copy_step}
 use Rattle.dce_pass.specs.Steps.{dead_steps}
-use Rattle.fold_proof.specs.Debug.{fold_step}
+use Rattle.fold_pass.specs.fold_proof.Debug.{fold_step}
 use Rattle.pass_list.specs.declared.kind.PassKind.{PassKind}
 use Rattle.pass_list.specs.declared.kind.PassKind.TheVariants.{Copy, Remat, Spill, Dead, Fold}
 use Rattle.remat_pass.specs.Pass.{remat_step}
 use Rattle.spill_pass.specs.Reserve.{reserve_of}
-use Rattle.spill_proof.specs.Step.{spill_step}
+use Rattle.spill_pass.specs.spill_proof.Step.{spill_step}
 
 -- ---- one pass: one line for each
 
@@ -57,15 +57,15 @@ count Fold = 1
 
 -- ---- a list of passes
 
--- the steps of all passes, in order
-abbrev pub steps_of : (reserve : List ℕ) → List PassKind → List PassStep
-steps_of reserve [] = []
-steps_of reserve (p ∷ ps) = steps_of_pass reserve p ++ steps_of reserve ps
-
 -- the steps of each pass
 abbrev pub passes_of : (reserve : List ℕ) → List PassKind → List (List PassStep)
 passes_of reserve [] = []
 passes_of reserve (p ∷ ps) = steps_of_pass reserve p ∷ passes_of reserve ps
+
+-- all these steps, in order
+abbrev pub joined : List (List PassStep) → List PassStep
+joined [] = []
+joined (steps ∷ passes) = steps ++ joined passes
 
 -- whether some pass requires matched block ends
 abbrev pub any_asks : List PassKind → Bool

@@ -5,7 +5,7 @@ use Rattle.mir_func.specs.Function.{Function}
 use Rattle.pass_trait.specs.declared.loss.Loss.{Loss}
 use Rattle.pass_trait.specs.Change.{Change}
 use Rattle.pass_trait.specs.Steps.{PassStep, KeepsSteps}
-use Rattle.pass_losses.specs.Reported.{AreReported}
+use Rattle.fold_pass.specs.pass_losses.Reported.{AreReported}
 
 -- a run of a pass's steps, with this loss report
 pub record KeepsPass (steps : List PassStep) (c : Change) (told : List Loss) : Type 0 where

@@ -4,4 +4,5 @@
 //! `PassKind`, one line in each definition of `specs/Passes.antt`, and one arm of `run_pass`.
 #![tactic(auto)]
 
+pub mod exposed;
 pub mod run;

@@ -17,16 +17,16 @@ use Rattle.mir_func.specs.Sound.{IsSound}
 use Rattle.mir_func.specs.Resolve.{resolve}
 use Rattle.rv64_instr.specs.LocationEffects.{IsSlotStore}
 use Rattle.mir_func.specs.Graph.{Here, Program, KindEdge, below, program_of}
-use Rattle.sem_mir.specs.State.{Core, State}
-use Rattle.sem_mir.specs.Align.{is_code, is_jump, moves_on, Count, ByItems, ByEnds, sync_point_at, AnyOrigin, RunsMatch, since_of, waits_at}
-use Rattle.sem_mir.specs.InitialState.{first_of, IsInitialState}
-use Rattle.sem_mir.specs.Follow.{KindFits, MarkFits, InOrder, Among, none, same, left, OnRow, GoesTo, Counts, Shape, IsEnd}
-use Rattle.sem_mir.specs.Follow.{KindsEndAlike}
-use Rattle.sem_mir.specs.Follow.{EndIsKept, EndComesFrom, IsMetApart}
+use Rattle.sem_agreement.specs.sem_mir.State.{Core, State}
+use Rattle.sem_agreement.specs.sem_mir.Align.{is_code, is_jump, moves_on, Count, ByItems, ByEnds, sync_point_at, AnyOrigin, RunsMatch, since_of, waits_at}
+use Rattle.sem_agreement.specs.sem_mir.InitialState.{first_of, IsInitialState}
+use Rattle.sem_agreement.specs.sem_mir.Follow.{KindFits, StaysVolatile, MarkFits, InOrder, Among, none, same, left, OnRow, GoesTo, Counts, Shape, IsEnd}
+use Rattle.sem_agreement.specs.sem_mir.Follow.{KindsEndAlike}
+use Rattle.sem_agreement.specs.sem_mir.Follow.{EndIsKept, EndComesFrom, IsMetApart}
 use Rattle.pass_trait.specs.Change.{change}
 use Rattle.pass_trait.specs.Simulation.{PreservesSimulation}
 use Rattle.pass_trait.proofs.NopFollows.{moves_after}
-use Rattle.pass_salvage.proofs.Kin.{Kin, kin_fits, kin_marks, kin_goes, kin_end, kin_is_end}
+use Rattle.pass_salvage.proofs.Kin.{Kin, kin_fits, kin_volatile, kin_marks, kin_goes, kin_end, kin_is_end}
 use Rattle.pass_salvage.proofs.Edits.{Edits, Edited, over, pair, out, put, BlocksEdited, no_blocks, next_block, order_edited, item_back, item_on}
 use Rattle.pass_salvage.proofs.EditRuns.{Keeps, IsSteady, runs_edited}
 use Rattle.pass_salvage.proofs.EditPaths.{stores_on}
@@ -96,6 +96,11 @@ debug_fits src (Code i n) source_end o e = cc
 debug_fits src (Mark v m) source_end o e = tt
 debug_fits src (Phi p n) source_end o e = tt
 
+pub debug_volatile : (src : Program) (k : ItemKind) (o : Origin) → is_code k ≡ false → StaysVolatile src k o
+debug_volatile src (Code i n) o e = cc
+debug_volatile src (Mark v m) o e = tt
+debug_volatile src (Phi p n) o e = tt
+
 module _ (E : Edits) (Q : E.Stage → Core → Core → Type 0) (allows : Allows E) (old new : Function) (sound : IsSound old) (sound' : IsSound new)
     (subs subs' : List DebugSubstitution) (objects : new.objects ≡ old.objects) (edited : BlocksEdited E old.blocks new.blocks)
     (keeps : Keeps E Q (program_of false old.blocks (resolve subs)) (program_of false new.blocks (resolve subs')))
@@ -129,6 +134,9 @@ module _ (E : Edits) (Q : E.Stage → Core → Core → Type 0) (allows : Allows
           (λ a b x y s origin kin h. subst (λ (n : ℕ). KindFits srcp y.kind n y.origin) (sym s)
           (subst (λ o. KindFits srcp y.kind a.source_end o) origin (kin_fits srcp x.kind y.kind kin a.source_end x.origin h)))
           (λ k k' b x y how no_code. debug_fits srcp y.kind b.source_end y.origin no_code) old.blocks new.blocks edited shape.items;
+      volatile = each_edited E (λ b i. StaysVolatile srcp i.kind i.origin)
+          (λ a b x y s origin kin h. subst (λ o. StaysVolatile srcp y.kind o) origin (kin_volatile srcp x.kind y.kind kin x.origin h))
+          (λ k k' b x y how no_code. debug_volatile srcp y.kind y.origin no_code) old.blocks new.blocks edited shape.volatile;
       stores = meet;
       marks = each_edited E (λ b i. MarkFits i.kind i.origin)
           (λ a b x y s origin kin h. subst (λ o. MarkFits y.kind o) origin (kin_marks x.kind y.kind kin x.origin h))

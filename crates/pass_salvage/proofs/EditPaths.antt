@@ -12,11 +12,11 @@ use Rattle.mir_func.specs.Graph.{Fetch, Here, EndOfBlock, Outside, Program, belo
 use Rattle.mir_func.specs.Graph.{FetchEdge, Edge, Leads, stay, go, rest_in, rest_of}
 use Rattle.mir_func.specs.Positions.{position_of}
 use Rattle.rv64_instr.specs.LocationEffects.{IsSlotStore}
-use Rattle.sem_mir.specs.Align.{is_code}
-use Rattle.sem_mir.specs.Follow.{OnRow, Counts, IsMetApart}
+use Rattle.sem_agreement.specs.sem_mir.Align.{is_code}
+use Rattle.sem_agreement.specs.sem_mir.Follow.{OnRow, Counts, IsMetApart}
 use Rattle.sem_mir.proofs.Edges.{leads_trans}
 use Rattle.sem_simulation.proofs.Laid.{laid_out}
-use Rattle.sem_simulation.specs.MatchStates.{IsPastItems}
+use Rattle.sem_agreement.specs.sem_simulation.MatchStates.{IsPastItems}
 use Rattle.pass_trait.proofs.Thinning.{first_of_front, none_of_front}
 use Rattle.pass_salvage.proofs.Kin.{Kin, kin_edge, kin_save, GoesAlike}
 use Rattle.pass_salvage.proofs.Edits.{Edits, Edited, over, pair, out, put, BlocksEdited, no_blocks, next_block, comes_from}

@@ -10,14 +10,14 @@ use Rattle.mir_func.specs.declared.item.ItemKind.{ItemKind}
 use Rattle.mir_func.specs.Sound.{AreApart, ids_of, OriginIn}
 use Rattle.mir_func.specs.Graph.{Program, block_start, from_block, index_of, program_of, rest_in, rest_of}
 use Rattle.mir_func.specs.Positions.{position_of}
-use Rattle.sem_mir.specs.State.{Core, State}
-use Rattle.sem_mir.specs.Step.{Outcome, Falls, Goes, Gives, Traps, Asks, Breaks, do_item}
-use Rattle.sem_mir.specs.Effects.{EndAlike, FallsInto}
-use Rattle.sem_mir.specs.Align.{is_code, is_jump, Count, moves_on, end_sync_point, sync_point_of, sync_point_at, IsOrigin, AnyOrigin}
-use Rattle.sem_mir.specs.Align.{RunsMatch, SyncPoint, After}
-use Rattle.sem_mir.specs.Follow.{InOrder}
-use Rattle.sem_simulation.specs.MatchStates.{Sides, MatchStates, ShowsSame, OutcomesAlike, since_item}
-use Rattle.sem_simulation.specs.InPlace.{FallsOrTraps, View, ended, both, taken, added, paired, InPlace}
+use Rattle.sem_agreement.specs.sem_mir.State.{Core, State}
+use Rattle.sem_agreement.specs.sem_mir.Step.{Outcome, Falls, Goes, Gives, Traps, Asks, Breaks, do_item}
+use Rattle.sem_agreement.specs.sem_mir.Effects.{EndAlike, FallsInto}
+use Rattle.sem_agreement.specs.sem_mir.Align.{is_code, is_jump, Count, moves_on, end_sync_point, sync_point_of, sync_point_at, IsOrigin, AnyOrigin}
+use Rattle.sem_agreement.specs.sem_mir.Align.{RunsMatch, SyncPoint, After}
+use Rattle.sem_agreement.specs.sem_mir.Follow.{InOrder}
+use Rattle.sem_agreement.specs.sem_simulation.MatchStates.{Sides, MatchStates, ShowsSame, OutcomesAlike, since_item}
+use Rattle.sem_agreement.specs.sem_simulation.InPlace.{FallsOrTraps, View, ended, both, taken, added, paired, InPlace}
 use Rattle.sem_simulation.proofs.Stations.{code_sync_point, end_is_sync_point, IsSyncPointOf, of_item, of_end, sync_point_is_of}
 use Rattle.sem_simulation.proofs.Laid.{laid_out, in_order_at, one_end, from_home, from_within, from_before_end, falls_down}
 use Rattle.sem_simulation.proofs.InPlace.{in_place_follows}

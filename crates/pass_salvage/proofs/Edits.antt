@@ -10,8 +10,8 @@ use Rattle.mir_func.specs.declared.block.Block.{Block}
 use Rattle.mir_func.specs.declared.item.Item.{Item}
 use Rattle.mir_func.specs.Graph.{Here, EndOfBlock, Program, block_start, end_of, front, fetch_in, from_block, program_of, rest_in, rest_of}
 use Rattle.mir_func.specs.Positions.{position_of}
-use Rattle.sem_mir.specs.Align.{is_code}
-use Rattle.sem_mir.specs.Follow.{rank, next_rank, InOrder}
+use Rattle.sem_agreement.specs.sem_mir.Align.{is_code}
+use Rattle.sem_agreement.specs.sem_mir.Follow.{rank, next_rank, InOrder}
 use Rattle.sem_mir.proofs.Reading.{found_in}
 use Rattle.pass_trait.proofs.Thinning.{first_of_front, none_of_front, drop_all}
 use Rattle.pass_salvage.proofs.Kin.{Kin}

@@ -7,7 +7,7 @@ use Rattle.mir_func.specs.Function.{Function}
 use Rattle.mir_func.specs.Sound.{IsSound}
 use Rattle.mir_func.specs.Resolve.{entry_of, resolve}
 use Rattle.mir_func.specs.Graph.{Program, program_of}
-use Rattle.sem_mir.specs.Follow.{OnRow, Counts, MarkFits}
+use Rattle.sem_agreement.specs.sem_mir.Follow.{OnRow, Counts, MarkFits}
 use Rattle.pass_trait.specs.Change.{change}
 use Rattle.pass_trait.specs.Simulation.{PreservesSimulation}
 use Rattle.pass_trait.specs.Rule.{first_operand}

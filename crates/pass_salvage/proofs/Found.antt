@@ -8,10 +8,10 @@ use Rattle.mir_func.specs.declared.debug_substitution.OperandPair.{OperandPair}
 use Rattle.mir_func.specs.declared.debug_substitution.DebugSubstitution.{DebugSubstitution}
 use Rattle.mir_func.specs.declared.item.Item.{Item}
 use Rattle.mir_func.specs.Resolve.{entry_of, resolve, Ends, at, by}
-use Rattle.sem_mir.specs.Step.{defined}
+use Rattle.sem_agreement.specs.sem_mir.Step.{defined}
 use Rattle.pass_trait.specs.Causes.{defines}
 use Rattle.pass_salvage.specs.SalvageAction.{last_definition, is_register, here_or, first_definition, has_entry}
-use Rattle.mir_substitution.proofs.Chains.{chain_end-none, resolve_ends}
+use Rattle.pass_trait.proofs.mir_substitution.Chains.{chain_end-none, resolve_ends}
 use Rattle.pass_salvage.proofs.Last.{last_more as one_more}
 
 -- ---- the last definition

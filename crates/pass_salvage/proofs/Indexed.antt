@@ -14,8 +14,8 @@ use Rattle.mir_func.specs.declared.variable.MarkValue.TheVariants.{Nothing, Cons
 use Rattle.mir_func.specs.Resolve.{is_pair, entry_of, resolve}
 use Rattle.pass_trait.specs.Causes.{defines}
 use Rattle.pass_trait.specs.Rule.{first_operand}
-use Rattle.mir_substitution.specs.Added.{added}
-use Rattle.mir_substitution.proofs.Entries.{is_pair-true, is_pair-same}
+use Rattle.pass_trait.specs.mir_substitution.Added.{added}
+use Rattle.pass_trait.proofs.mir_substitution.Entries.{is_pair-true, is_pair-same}
 use Rattle.pass_salvage.specs.declared.above.Above.{Above}
 use Rattle.pass_salvage.specs.declared.lookup.Lookup.{Lookup}
 use Rattle.pass_salvage.specs.declared.lookup.Lookup.TheVariants.{Index, Walk}

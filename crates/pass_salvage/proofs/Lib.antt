@@ -14,3 +14,6 @@ pub mod Follows
 pub mod Last
 pub mod Indexed
 pub mod Going
+pub use Rattle.pass_trait.proofs.mir_substitution as mir_substitution
+pub use Rattle.pass_trait.proofs as pass_trait
+pub use Rattle.sem_agreement.proofs as sem_agreement

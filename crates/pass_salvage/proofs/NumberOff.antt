@@ -17,15 +17,15 @@ use Rattle.mir_func.specs.declared.item.ItemKind.TheVariants.{Code, Mark, Phi}
 use Rattle.mir_func.specs.declared.variable.MarkValue.TheVariants.{Nothing, Constant, At, Pair}
 use Rattle.mir_func.specs.Sound.{number_of}
 use Rattle.mir_func.specs.Graph.{Program}
-use Rattle.sem_mir.specs.State.{Core, content}
-use Rattle.sem_mir.specs.Step.{Outcome, Falls, Goes, Gives, Traps, Asks, Breaks, act, numbered, given, defined, seen, pair_value, do_item}
-use Rattle.sem_mir.specs.Effects.{held_in, OnCore, EndAlike}
-use Rattle.sem_mir.specs.Live.{KindDefines}
-use Rattle.sem_mir.specs.Align.{is_code}
+use Rattle.sem_agreement.specs.sem_mir.State.{Core, content}
+use Rattle.sem_agreement.specs.sem_mir.Step.{Outcome, Falls, Goes, Gives, Traps, Asks, Breaks, act, numbered, given, defined, seen, pair_value, do_item}
+use Rattle.sem_agreement.specs.sem_mir.Effects.{held_in, OnCore, EndAlike}
+use Rattle.sem_agreement.specs.sem_mir.Live.{KindDefines}
+use Rattle.sem_agreement.specs.sem_mir.Align.{is_code}
 use Rattle.sem_mir.proofs.Outcomes.{alike_weaker}
 use Rattle.sem_mir.proofs.Parts.{effects_hold}
 use Rattle.sem_mir.proofs.Places.{updated_same, updated_other}
-use Rattle.sem_simulation.specs.MatchStates.{OutcomesAlike}
+use Rattle.sem_agreement.specs.sem_simulation.MatchStates.{OutcomesAlike}
 use Rattle.sem_simulation.proofs.Outcomes.{alike_of}
 use Rattle.pass_trait.specs.Rule.{item, first_operand}
 use Rattle.sem_agreement.specs.Agreement.{AgreeOn, DebugLessDef, Alike, GenDefs, HeldAfter, NumbersHeld, Depends}

@@ -3,8 +3,8 @@ use Rattle.std.proofs.Common.{◌≡◌, ◌⊎◌, inl, inr, List, [], ◌∷�
 use Rattle.mir_func.specs.declared.debug_substitution.OperandPair.{OperandPair}
 use Rattle.mir_func.specs.declared.debug_substitution.DebugSubstitution.{DebugSubstitution}
 use Rattle.mir_func.specs.Resolve.{is_pair, entry_of, resolve, Ends, at, by}
-use Rattle.mir_substitution.proofs.Entries.{is_pair-true, is_pair-same, entry_of-push}
-use Rattle.mir_substitution.proofs.Chains.{resolve_ends, ends_resolve}
+use Rattle.pass_trait.proofs.mir_substitution.Entries.{is_pair-true, is_pair-same, entry_of-push}
+use Rattle.pass_trait.proofs.mir_substitution.Chains.{resolve_ends, ends_resolve}
 
 module _ (subs : List DebugSubstitution) (e : DebugSubstitution) (whole : e.subreg ≡ 0) (free : entry_of subs e.src ≡ None) (end : entry_of subs e.dst ≡ None)
     (apart : e.src ≡ e.dst → ⊥) where

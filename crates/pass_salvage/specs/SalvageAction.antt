@@ -12,7 +12,7 @@ use Rattle.mir_func.specs.declared.item.ItemKind.{ItemKind}
 use Rattle.mir_func.specs.declared.item.ItemKind.TheVariants.{Code, Mark, Phi}
 use Rattle.mir_func.specs.declared.variable.MarkValue.TheVariants.{Nothing, Constant, At, Pair}
 use Rattle.mir_func.specs.Resolve.{is_pair, entry_of, resolve}
-use Rattle.sem_mir.specs.Step.{defined}
+use Rattle.sem_agreement.specs.sem_mir.Step.{defined}
 use Rattle.pass_trait.specs.Causes.{defines}
 use Rattle.pass_trait.specs.Rule.{first_operand}
 use Rattle.pass_salvage.specs.declared.salvage_action.SalvageAction.{SalvageAction}

@@ -23,7 +23,7 @@ use base_ids::function_ids::{DebugNumber, OperandIndex};
 use mir_func::debug_substitution::OperandPair;
 use mir_func::item::{Item, ItemKind};
 use mir_func::variable::MarkValue;
-use mir_substitution::substitutions::Substitutions;
+use pass_trait::mir_substitution_crate::substitutions::Substitutions;
 use rv64_instr::decoded::Decoded;
 use rv64_instr::effects::CALLER_SAVED;
 use rv64_instr::reg::Reg;

@@ -9,7 +9,7 @@ use mir_func::debug_substitution::DebugSubstitution;
 use mir_func::func::Func;
 use mir_func::item::{Item, ItemKind};
 use mir_func::variable::MarkValue;
-use mir_substitution::substitutions::Substitutions;
+use pass_trait::mir_substitution_crate::substitutions::Substitutions;
 
 /// A fresh debug instruction number: one above the greatest of items, of debug values' operands and of both sides of
 /// substitutions, and 1 if there is none. It takes no memory.

@@ -6,6 +6,9 @@
 //! `fresh_number`. The laws say that this preserves the simulation.
 #![tactic(auto)]
 
+pub use pass_trait as pass_trait_crate;
+pub use pass_trait::mir_substitution_crate as mir_substitution_crate;
+
 pub mod above;
 pub mod fresh;
 pub mod lookup;

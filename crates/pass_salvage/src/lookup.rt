@@ -16,7 +16,7 @@ use crate::salvage_action::{
 };
 use base_ids::function_ids::{DebugNumber, OperandIndex};
 use mir_func::item::{Item, ItemKind};
-use mir_substitution::substitutions::Substitutions;
+use pass_trait::mir_substitution_crate::substitutions::Substitutions;
 use rv64_instr::reg::Reg;
 use std::alloc::{AllocError, Global};
 

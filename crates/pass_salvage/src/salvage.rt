@@ -14,7 +14,7 @@ use mir_func::debug_substitution::{DebugSubstitution, OperandPair};
 use mir_func::item::{Item, ItemKind};
 use mir_func::location::Loc;
 use mir_func::position::Origin;
-use mir_substitution::substitutions::Substitutions;
+use pass_trait::mir_substitution_crate::substitutions::Substitutions;
 use rv64_instr::place::Place;
 use rv64_instr::reg::Reg;
 use std::alloc::{AllocError, Global};

@@ -5,7 +5,7 @@ ghost use Rattle.std.specs.List.{list_any};
 ghost use Rattle.rv64_instr.specs.declared.place.Place.TheVariants as place;
 ghost use Rattle.rv64_instr.specs.Row.{row_of};
 ghost use Rattle.rv64_instr.specs.LocationEffects.{is_call};
-ghost use Rattle.sem_mir.specs.Step.{defined};
+ghost use Rattle.sem_agreement.specs.sem_mir.Step.{defined};
 ghost use Rattle.pass_trait.specs.Causes.{defines};
 ghost use Rattle.pass_salvage.specs.SalvageAction.{last_definition, is_register, first_definition, asks_for, has_entry};
 ghost use Rattle.pass_salvage.specs.SalvageAction.{or_fresh, going_from};
@@ -15,7 +15,7 @@ use base_ids::function_ids::{DebugNumber, OperandIndex};
 use mir_func::debug_substitution::OperandPair;
 use mir_func::item::{Item, ItemKind};
 use mir_func::variable::MarkValue;
-use mir_substitution::substitutions::Substitutions;
+use pass_trait::mir_substitution_crate::substitutions::Substitutions;
 use rv64_instr::instr::Instr;
 use rv64_instr::operand::Operand;
 use rv64_instr::place::Place;
@@ -155,6 +155,7 @@ fn is_definition(call: bool, s: Reg, operand: &Operand) -> bool
         | Operand::Object(_)
         | Operand::Part(_, _)
         | Operand::Outgoing(_)
+        | Operand::GlobalRegisters
         | Operand::Block(_)
         | Operand::Symbol(_)
         | Operand::Mask => false,

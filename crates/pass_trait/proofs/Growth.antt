@@ -1,9 +1,9 @@
 -- The bounds of passes, one after another.
 use Rattle.std.proofs.Common.{◌≡◌, ℕ, ◌+◌, ◌*◌, ◌≤◌, sym, ◌∙◌, ap, subst, arith, List}
 use Rattle.std.proofs.Math.Nat.{mul-le-mul, mul-le-mul_left, mul-le-mul_right, mul-add, add-mul, mul_assoc, mul_comm, le_trans, le_refl}
-use Rattle.mir_func.specs.declared.debug_substitution.DebugSubstitution.{DebugSubstitution}
-use Rattle.mir_func.specs.Function.{Function}
-use Rattle.mir_func.specs.Limits.{MAX_BLOCKS, MAX_SLOTS}
+use Rattle.sem_simulation.specs.mir_func.declared.debug_substitution.DebugSubstitution.{DebugSubstitution}
+use Rattle.sem_simulation.specs.mir_func.Function.{Function}
+use Rattle.sem_simulation.specs.mir_func.Limits.{MAX_BLOCKS, MAX_SLOTS}
 use Rattle.pass_trait.specs.Change.{change}
 use Rattle.pass_trait.specs.Sizes.{most, item_count, code_count, KeepsSizes}
 

@@ -1,16 +1,16 @@
 -- Taking out no-operations and debug items comes to the same in either order.
 use Rattle.std.proofs.Common.{◌≡◌, List, [], ◌∷◌, filter, Bool, true, false, cond, None, not, ◌&&◌, ◌||◌, refl, sym, ap, ◌∙◌}
 use Rattle.std.specs.List.{list_any}
-use Rattle.mir_func.specs.declared.position.Origin.{Origin}
-use Rattle.mir_func.specs.declared.position.Origin.TheVariants.{Kept, Before}
-use Rattle.mir_func.specs.declared.location.Loc.{Loc}
-use Rattle.mir_func.specs.declared.block.Block.{Block}
-use Rattle.mir_func.specs.declared.item.Item.{Item}
-use Rattle.mir_func.specs.declared.item.ItemKind.{ItemKind}
-use Rattle.mir_func.specs.declared.item.ItemKind.TheVariants.{Code, Mark, Phi}
-use Rattle.mir_func.specs.Function.{Function}
-use Rattle.mir_func.specs.Strip.{stripped, stripped_items, stripped_blocks}
-use Rattle.rv64_instr.specs.Row.{row_of}
+use Rattle.sem_simulation.specs.mir_func.declared.position.Origin.{Origin}
+use Rattle.sem_simulation.specs.mir_func.declared.position.Origin.TheVariants.{Kept, Before}
+use Rattle.sem_simulation.specs.mir_func.declared.location.Loc.{Loc}
+use Rattle.sem_simulation.specs.mir_func.declared.block.Block.{Block}
+use Rattle.sem_simulation.specs.mir_func.declared.item.Item.{Item}
+use Rattle.sem_simulation.specs.mir_func.declared.item.ItemKind.{ItemKind}
+use Rattle.sem_simulation.specs.mir_func.declared.item.ItemKind.TheVariants.{Code, Mark, Phi}
+use Rattle.sem_simulation.specs.mir_func.Function.{Function}
+use Rattle.sem_simulation.specs.mir_func.Strip.{stripped, stripped_items, stripped_blocks}
+use Rattle.sem_simulation.specs.rv64_instr.Row.{row_of}
 use Rattle.pass_trait.specs.Nops.{is_nop_row, is_added_save, has_added_saves, stays, thinned_blocks, thinned}
 
 abbrev any_save : List Item → Bool

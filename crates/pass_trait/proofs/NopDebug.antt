@@ -5,26 +5,26 @@ use Rattle.std.specs.List.{flat_map, cons_option}
 use Rattle.std.proofs.lemmas.List.Sums.{sum_by-cons}
 use Rattle.std.proofs.lemmas.List.Elements.{All-weaker, All-contains, All-contains_itself, Contains-append_left, Contains-append_right}
 use Rattle.std.proofs.lemmas.Option.{get_or_from_slice_get}
-use Rattle.rv64_instr.specs.declared.place.Place.{Place}
-use Rattle.rv64_instr.specs.declared.place.Place.TheVariants.{Register, Slot, Const}
-use Rattle.rv64_instr.specs.Row.{Row, Moves, row_of}
-use Rattle.mir_func.specs.declared.position.Pos.{Pos}
-use Rattle.mir_func.specs.declared.position.Origin.{Origin}
-use Rattle.mir_func.specs.declared.position.Origin.TheVariants.{Kept, Before}
-use Rattle.mir_func.specs.declared.location.Loc.{Loc}
-use Rattle.mir_func.specs.declared.variable.MarkValue.{MarkValue}
-use Rattle.mir_func.specs.declared.variable.MarkValue.TheVariants.{Nothing, Constant, At, Pair}
-use Rattle.mir_func.specs.declared.block.Block.{Block}
-use Rattle.mir_func.specs.declared.debug_substitution.DebugSubstitution.{DebugSubstitution}
-use Rattle.mir_func.specs.declared.item.Item.{Item}
-use Rattle.mir_func.specs.declared.item.ItemKind.{ItemKind}
-use Rattle.mir_func.specs.declared.item.ItemKind.TheVariants.{Code, Mark, Phi}
-use Rattle.mir_func.specs.Function.{Function}
-use Rattle.mir_func.specs.Sound.{ids_of, items_of, code_number, OriginIn, IsSound}
-use Rattle.mir_func.specs.Graph.{Here, fetch_in, from_block}
-use Rattle.mir_func.specs.Positions.{position_of, is_same_position}
-use Rattle.sem_mir.specs.Align.{is_code}
-use Rattle.sem_mir.proofs.Reading.{found, found_in, front_item, item_front, within_list}
+use Rattle.sem_simulation.specs.rv64_instr.declared.place.Place.{Place}
+use Rattle.sem_simulation.specs.rv64_instr.declared.place.Place.TheVariants.{Register, Slot, Const}
+use Rattle.sem_simulation.specs.rv64_instr.Row.{Row, Moves, row_of}
+use Rattle.sem_simulation.specs.mir_func.declared.position.Pos.{Pos}
+use Rattle.sem_simulation.specs.mir_func.declared.position.Origin.{Origin}
+use Rattle.sem_simulation.specs.mir_func.declared.position.Origin.TheVariants.{Kept, Before}
+use Rattle.sem_simulation.specs.mir_func.declared.location.Loc.{Loc}
+use Rattle.sem_simulation.specs.mir_func.declared.variable.MarkValue.{MarkValue}
+use Rattle.sem_simulation.specs.mir_func.declared.variable.MarkValue.TheVariants.{Nothing, Constant, At, Pair}
+use Rattle.sem_simulation.specs.mir_func.declared.block.Block.{Block}
+use Rattle.sem_simulation.specs.mir_func.declared.debug_substitution.DebugSubstitution.{DebugSubstitution}
+use Rattle.sem_simulation.specs.mir_func.declared.item.Item.{Item}
+use Rattle.sem_simulation.specs.mir_func.declared.item.ItemKind.{ItemKind}
+use Rattle.sem_simulation.specs.mir_func.declared.item.ItemKind.TheVariants.{Code, Mark, Phi}
+use Rattle.sem_simulation.specs.mir_func.Function.{Function}
+use Rattle.sem_simulation.specs.mir_func.Sound.{ids_of, items_of, code_number, OriginIn, IsSound}
+use Rattle.sem_simulation.specs.mir_func.Graph.{Here, fetch_in, from_block}
+use Rattle.sem_simulation.specs.mir_func.Positions.{position_of, is_same_position}
+use Rattle.sem_simulation.specs.sem_mir.Align.{is_code}
+use Rattle.sem_simulation.proofs.sem_mir.Reading.{found, found_in, front_item, item_front, within_list}
 use Rattle.pass_trait.specs.declared.loss.Reason.TheVariants.{Removed}
 use Rattle.pass_trait.specs.declared.loss.Lost.TheVariants as lost
 use Rattle.pass_trait.specs.declared.loss.Loss.{Loss}

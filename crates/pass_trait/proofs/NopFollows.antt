@@ -7,31 +7,31 @@ use Rattle.std.proofs.lemmas.List.Elements.{All-cons, All-contains, All-contains
 use Rattle.std.proofs.lemmas.List.Elements.{Contains-append_right}
 use Rattle.std.proofs.lemmas.Option.{slice_get-get_or, get_or_from_slice_get}
 use Rattle.std.proofs.Math.Nat.{le_trans}
-use Rattle.rv64_instr.specs.Row.{Row, Fixes, LoadsSlot, StoresSlot, Branches, Jumps, Returns, row_of}
-use Rattle.mir_func.specs.declared.debug_substitution.OperandPair.{OperandPair}
-use Rattle.mir_func.specs.declared.object.Object.{Object}
-use Rattle.mir_func.specs.declared.position.Pos.{Pos}
-use Rattle.mir_func.specs.declared.position.Origin.{Origin}
-use Rattle.mir_func.specs.declared.position.Origin.TheVariants.{Kept, Before}
-use Rattle.mir_func.specs.declared.block.Block.{Block}
-use Rattle.mir_func.specs.declared.debug_substitution.DebugSubstitution.{DebugSubstitution}
-use Rattle.mir_func.specs.declared.item.Item.{Item}
-use Rattle.mir_func.specs.declared.item.ItemKind.{ItemKind}
-use Rattle.mir_func.specs.declared.item.ItemKind.TheVariants.{Code, Mark, Phi}
-use Rattle.mir_func.specs.Function.{Function}
-use Rattle.mir_func.specs.Sound.{items_of, number_of, NumbersOnce, OriginIn, IsSound}
-use Rattle.sem_mir.specs.State.{Core, State}
-use Rattle.sem_mir.specs.Step.{Falls, Goes, Traps, act, does, slot_loaded, with_core, are_written, numbered, do_item}
-use Rattle.rv64_instr.specs.LocationEffects.{is_call, IsSlotStore}
-use Rattle.mir_func.specs.Graph.{Here, Program, fetch_in, from_block, program_of}
-use Rattle.mir_func.specs.Resolve.{resolve}
-use Rattle.sem_mir.specs.Align.{is_jump, is_jump_row, waits_at, moves_on, Count, ByItems, ByEnds, sync_point_at, AnyOrigin, RunsMatch, After, since_of}
-use Rattle.sem_mir.specs.InitialState.{first_of, IsInitialState}
-use Rattle.sem_mir.specs.Follow.{MayAdd, KindFits, MarkFits, InOrder, next_rank, Among, none, same, left, OnRow, GoesTo, Shape, SameEnd}
-use Rattle.sem_mir.specs.Follow.{IsEnd, KindsEndAlike, EndIsKept, EndComesFrom}
-use Rattle.sem_mir.proofs.Reading.{found_in, front_item, within_list}
+use Rattle.sem_simulation.specs.rv64_instr.Row.{Row, Fixes, LoadsSlot, StoresSlot, Branches, Jumps, Returns, row_of}
+use Rattle.sem_simulation.specs.mir_func.declared.debug_substitution.OperandPair.{OperandPair}
+use Rattle.sem_simulation.specs.mir_func.declared.object.Object.{Object}
+use Rattle.sem_simulation.specs.mir_func.declared.position.Pos.{Pos}
+use Rattle.sem_simulation.specs.mir_func.declared.position.Origin.{Origin}
+use Rattle.sem_simulation.specs.mir_func.declared.position.Origin.TheVariants.{Kept, Before}
+use Rattle.sem_simulation.specs.mir_func.declared.block.Block.{Block}
+use Rattle.sem_simulation.specs.mir_func.declared.debug_substitution.DebugSubstitution.{DebugSubstitution}
+use Rattle.sem_simulation.specs.mir_func.declared.item.Item.{Item}
+use Rattle.sem_simulation.specs.mir_func.declared.item.ItemKind.{ItemKind}
+use Rattle.sem_simulation.specs.mir_func.declared.item.ItemKind.TheVariants.{Code, Mark, Phi}
+use Rattle.sem_simulation.specs.mir_func.Function.{Function}
+use Rattle.sem_simulation.specs.mir_func.Sound.{items_of, number_of, NumbersOnce, OriginIn, IsSound}
+use Rattle.sem_simulation.specs.sem_mir.State.{Core, State}
+use Rattle.sem_simulation.specs.sem_mir.Step.{Falls, Goes, Traps, act, does, slot_loaded, with_core, are_written, numbered, do_item}
+use Rattle.sem_simulation.specs.rv64_instr.LocationEffects.{is_call, IsSlotStore}
+use Rattle.sem_simulation.specs.mir_func.Graph.{Here, Program, fetch_in, from_block, program_of}
+use Rattle.sem_simulation.specs.mir_func.Resolve.{resolve}
+use Rattle.sem_simulation.specs.sem_mir.Align.{is_jump, is_jump_row, waits_at, moves_on, Count, ByItems, ByEnds, sync_point_at, AnyOrigin, RunsMatch, After, since_of}
+use Rattle.sem_simulation.specs.sem_mir.InitialState.{first_of, IsInitialState}
+use Rattle.sem_simulation.specs.sem_mir.Follow.{MayAdd, KindFits, StaysVolatile, MarkFits, InOrder, next_rank, Among, none, same, left, OnRow, GoesTo, Shape, SameEnd}
+use Rattle.sem_simulation.specs.sem_mir.Follow.{IsEnd, KindsEndAlike, EndIsKept, EndComesFrom}
+use Rattle.sem_simulation.proofs.sem_mir.Reading.{found_in, front_item, within_list}
 use Rattle.sem_simulation.proofs.Order.{rank_next}
-use Rattle.sem_mir.proofs.Told.{tells_itself}
+use Rattle.sem_simulation.proofs.sem_mir.Told.{tells_itself}
 use Rattle.pass_trait.specs.Change.{change}
 use Rattle.pass_trait.specs.Simulation.{PreservesSimulation}
 use Rattle.pass_trait.specs.Nops.{is_nop_row, is_nop, is_save_row, is_added_save, has_added_saves, stays, thinned_blocks, thinned}
@@ -241,6 +241,7 @@ module _ (f : Function) (sound : IsSound f) (src : List Block) (srcp : Program) 
       order = order_new;
       items = each_left keep (λ b i. KindFits srcp i.kind b.source_end i.origin) (λ b i. KindFits srcp i.kind b.source_end i.origin)
           (λ b i h. h) f.blocks shape.items;
+      volatile = each_left keep (λ b i. StaysVolatile srcp i.kind i.origin) (λ b i. StaysVolatile srcp i.kind i.origin) (λ b i h. h) f.blocks shape.volatile;
       stores = λ b member p i block at save o.
           (let w = item_from keep false f.blocks resolve p i at in
           let bad : false ≡ true = sym (at_item (λ (i : Item). is_added_save i.kind i.origin ≡ false) false f.blocks resolve

@@ -3,30 +3,30 @@ use Rattle.std.proofs.Common.{◌≡◌, ℕ, zero, List, [], ◌∷◌, filter,
 use Rattle.std.proofs.Common.{subst, inl, inr, ◌⊎◌, slice_get, arith}
 use Rattle.std.proofs.lemmas.Bool.{cases_eq}
 use Rattle.std.proofs.lemmas.List.Elements.{All-head, All-tail, All-contains}
-use Rattle.rv64_instr.specs.declared.operand.Operand.{Operand}
-use Rattle.rv64_instr.specs.Row.{Row, Fixes, Jumps, row_of}
-use Rattle.mir_func.specs.declared.debug_substitution.OperandPair.{OperandPair}
-use Rattle.mir_func.specs.declared.position.Pos.{Pos}
-use Rattle.mir_func.specs.declared.block.Block.{Block}
-use Rattle.mir_func.specs.declared.item.Item.{Item}
-use Rattle.mir_func.specs.declared.item.ItemKind.{ItemKind}
-use Rattle.mir_func.specs.declared.item.ItemKind.TheVariants.{Code, Mark, Phi}
-use Rattle.mir_func.specs.Sound.{AreApart, ids_of, items_of, number_of, code_number, OriginIn}
-use Rattle.sem_mir.specs.State.{Core, State, updated}
-use Rattle.sem_mir.specs.Step.{Outcome, Falls, Goes, Gives, Traps, Asks, Breaks, act, does, with_core, numbered, given, defined, place_value, do_item}
-use Rattle.rv64_instr.specs.LocationEffects.{is_call}
-use Rattle.mir_func.specs.Graph.{Program, block_start, from_block, index_of, program_of, rest_in, rest_of}
-use Rattle.sem_mir.specs.Align.{is_code, is_jump, is_jump_row, Count, end_sync_point, sync_point_at, IsOrigin, Since, After, AnyOrigin, RunsMatch}
-use Rattle.sem_mir.specs.Follow.{InOrder}
+use Rattle.sem_simulation.specs.rv64_instr.declared.operand.Operand.{Operand}
+use Rattle.sem_simulation.specs.rv64_instr.Row.{Row, Fixes, Jumps, row_of}
+use Rattle.sem_simulation.specs.mir_func.declared.debug_substitution.OperandPair.{OperandPair}
+use Rattle.sem_simulation.specs.mir_func.declared.position.Pos.{Pos}
+use Rattle.sem_simulation.specs.mir_func.declared.block.Block.{Block}
+use Rattle.sem_simulation.specs.mir_func.declared.item.Item.{Item}
+use Rattle.sem_simulation.specs.mir_func.declared.item.ItemKind.{ItemKind}
+use Rattle.sem_simulation.specs.mir_func.declared.item.ItemKind.TheVariants.{Code, Mark, Phi}
+use Rattle.sem_simulation.specs.mir_func.Sound.{AreApart, ids_of, items_of, number_of, code_number, OriginIn}
+use Rattle.sem_simulation.specs.sem_mir.State.{Core, State, updated}
+use Rattle.sem_simulation.specs.sem_mir.Step.{Outcome, Falls, Goes, Gives, Traps, Asks, Breaks, act, does, with_core, numbered, given, defined, place_value, do_item}
+use Rattle.sem_simulation.specs.rv64_instr.LocationEffects.{is_call}
+use Rattle.sem_simulation.specs.mir_func.Graph.{Program, block_start, from_block, index_of, program_of, rest_in, rest_of}
+use Rattle.sem_simulation.specs.sem_mir.Align.{is_code, is_jump, is_jump_row, Count, end_sync_point, sync_point_at, IsOrigin, Since, After, AnyOrigin, RunsMatch}
+use Rattle.sem_simulation.specs.sem_mir.Follow.{InOrder}
 use Rattle.sem_simulation.specs.MatchStates.{Sides, MatchStates, since_item}
 use Rattle.sem_simulation.specs.InPlace.{FallsOrTraps, DoAlike, View, ended, both, taken, paired, InPlace}
-use Rattle.sem_mir.proofs.Effects.{told_by, act_apart}
-use Rattle.sem_mir.specs.Effects.{EndAlike, OnCore}
-use Rattle.sem_mir.proofs.Places.{updated_other}
-use Rattle.sem_mir.proofs.Told.{TellsLess, SeesLess, item_less}
+use Rattle.sem_simulation.proofs.sem_mir.Effects.{told_by, act_apart}
+use Rattle.sem_simulation.specs.sem_mir.Effects.{EndAlike, OnCore}
+use Rattle.sem_simulation.proofs.sem_mir.Places.{updated_other}
+use Rattle.sem_simulation.proofs.sem_mir.Told.{TellsLess, SeesLess, item_less}
 use Rattle.sem_simulation.proofs.Stations.{moves_on_less, code_sync_point, end_is_sync_point, IsSyncPointOf, of_item, of_end, sync_point_is_of}
 use Rattle.sem_simulation.proofs.Laid.{laid_out, in_order_at, one_end, from_home, from_within, from_before_end, falls_down}
-use Rattle.sem_mir.proofs.Reading.{found_in}
+use Rattle.sem_simulation.proofs.sem_mir.Reading.{found_in}
 use Rattle.sem_simulation.proofs.InPlace.{in_place_follows}
 use Rattle.pass_trait.specs.Nops.{is_nop_row, is_nop, stays, thinned_blocks}
 use Rattle.pass_trait.proofs.Thinning.{drop_zero, item_from, end_from, end_there, rest_thin}

@@ -4,14 +4,14 @@ use Rattle.std.specs.List.{flat_map}
 use Rattle.std.proofs.lemmas.List.{append_assoc}
 use Rattle.std.proofs.lemmas.List.Sums.{length-filter, count_by-le-length, sum_by-cons}
 use Rattle.std.proofs.Math.Nat.{le-max_left, le-max_right, max-le, le_trans, le_refl}
-use Rattle.mir_func.specs.declared.debug_substitution.DebugSubstitution.{DebugSubstitution}
-use Rattle.mir_func.specs.declared.item.Item.{Item}
-use Rattle.mir_func.specs.Function.{Function}
-use Rattle.mir_func.specs.Limits.{MAX_BLOCKS, MAX_SLOTS}
-use Rattle.mir_func.specs.Sound.{items_of}
-use Rattle.mir_func.specs.SoundFrame.{HasPhysical}
-use Rattle.mir_func.specs.Calls.{is_call_kind}
-use Rattle.sem_mir.specs.Align.{is_code}
+use Rattle.sem_simulation.specs.mir_func.declared.debug_substitution.DebugSubstitution.{DebugSubstitution}
+use Rattle.sem_simulation.specs.mir_func.declared.item.Item.{Item}
+use Rattle.sem_simulation.specs.mir_func.Function.{Function}
+use Rattle.sem_simulation.specs.mir_func.Limits.{MAX_BLOCKS, MAX_SLOTS}
+use Rattle.sem_simulation.specs.mir_func.Sound.{items_of}
+use Rattle.sem_simulation.specs.mir_func.SoundFrame.{HasPhysical}
+use Rattle.sem_simulation.specs.mir_func.Calls.{is_call_kind}
+use Rattle.sem_simulation.specs.sem_mir.Align.{is_code}
 use Rattle.pass_trait.specs.Change.{change}
 use Rattle.pass_trait.specs.Sizes.{greatest, most_numbers, numbers_of, KeepsSizes}
 use Rattle.pass_trait.specs.Nops.{stays, thinned_blocks}

@@ -7,19 +7,19 @@ use Rattle.std.proofs.lemmas.List.Elements.{filter-append, All-weaker, All-map}
 use Rattle.std.proofs.lemmas.List.Kept.{AllPairs-filter}
 use Rattle.std.proofs.lemmas.Option.{slice_get-get_or, get_or_from_slice_get}
 use Rattle.std.specs.Prelude.{AllPairs}
-use Rattle.rv64_instr.specs.Row.{Row, Fixes, row_of}
-use Rattle.mir_func.specs.declared.block.Block.{Block}
-use Rattle.mir_func.specs.declared.item.Item.{Item}
-use Rattle.mir_func.specs.declared.item.ItemKind.{ItemKind}
-use Rattle.mir_func.specs.declared.item.ItemKind.TheVariants.{Code, Mark, Phi}
-use Rattle.mir_func.specs.Function.{Function}
-use Rattle.mir_func.specs.Sound.{AreApart, ids_of, items_of, number_of, code_number, NumbersOnce, OriginIn, TargetsIn, SlotsIn, ObjectsIn, LeavesPointer}
-use Rattle.mir_func.specs.Sound.{IsJumpAtMost, MayFollow, EndsWell, Closes, LastCloses, IsSound, KindPassesFirst}
-use Rattle.mir_func.specs.declared.exit.Exit.{Exit}
-use Rattle.mir_func.specs.declared.exit.Exit.TheVariants.{Onward, Perhaps, Always, Final}
-use Rattle.mir_func.specs.Exits.{row_exit, exit_of, IsAlways, Leaves}
-use Rattle.mir_func.specs.Limits.{MAX_BLOCKS}
-use Rattle.sem_mir.proofs.Reading.{within_list}
+use Rattle.sem_simulation.specs.rv64_instr.Row.{Row, Fixes, row_of}
+use Rattle.sem_simulation.specs.mir_func.declared.block.Block.{Block}
+use Rattle.sem_simulation.specs.mir_func.declared.item.Item.{Item}
+use Rattle.sem_simulation.specs.mir_func.declared.item.ItemKind.{ItemKind}
+use Rattle.sem_simulation.specs.mir_func.declared.item.ItemKind.TheVariants.{Code, Mark, Phi}
+use Rattle.sem_simulation.specs.mir_func.Function.{Function}
+use Rattle.sem_simulation.specs.mir_func.Sound.{AreApart, ids_of, items_of, number_of, code_number, NumbersOnce, OriginIn, TargetsIn, SlotsIn, ObjectsIn, LeavesPointer}
+use Rattle.sem_simulation.specs.mir_func.Sound.{IsJumpAtMost, MayFollow, EndsWell, Closes, LastCloses, IsSound, KindPassesFirst}
+use Rattle.sem_simulation.specs.mir_func.declared.exit.Exit.{Exit}
+use Rattle.sem_simulation.specs.mir_func.declared.exit.Exit.TheVariants.{Onward, Perhaps, Always, Final}
+use Rattle.sem_simulation.specs.mir_func.Exits.{row_exit, exit_of, IsAlways, Leaves}
+use Rattle.sem_simulation.specs.mir_func.Limits.{MAX_BLOCKS}
+use Rattle.sem_simulation.proofs.sem_mir.Reading.{within_list}
 use Rattle.pass_trait.specs.Nops.{is_nop_row, is_nop, stays, thinned_blocks}
 use Rattle.pass_trait.proofs.Thinning.{thin}
 use Rattle.pass_trait.proofs.NopFollows.{each_left, origin_thin, stays_else}

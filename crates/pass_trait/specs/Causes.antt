@@ -3,34 +3,34 @@
 use Rattle.std.specs.Prelude.{◌≡◌, ◌⊎◌, ℕ, ◌+◌, ◌<◌, ◌≤◌, List, [], ◌∷◌, length, take, filter, count_by, All, Contains, Option, Some, None, Bool, true, false}
 use Rattle.std.specs.Prelude.{not, ◌&&◌, nat_eq}
 use Rattle.std.specs.List.{list_any}
-use Rattle.rv64_instr.specs.declared.operand.Operand.{Operand}
-use Rattle.rv64_instr.specs.declared.operand.Operand.TheVariants.{Def, Use, ImplicitDef, ImplicitUse}
-use Rattle.rv64_instr.specs.declared.operand.Operand.TheVariants.{Imm, Slot as OfSlot, Object as OfObject, Part, Outgoing, Block as OfBlock}
-use Rattle.rv64_instr.specs.declared.operand.Operand.TheVariants.{Symbol, Mask}
-use Rattle.rv64_instr.specs.declared.place.Place.{Place}
-use Rattle.rv64_instr.specs.declared.place.Place.TheVariants.{Register}
-use Rattle.rv64_instr.specs.Instruction.{Instruction}
-use Rattle.rv64_instr.specs.Row.{row_of}
-use Rattle.rv64_instr.specs.LocationEffects.{has_implicit_uses, defines_of}
-use Rattle.mir_func.specs.declared.position.Pos.{Pos}
-use Rattle.mir_func.specs.declared.position.Origin.{Origin}
-use Rattle.mir_func.specs.declared.position.Origin.TheVariants.{Kept, Before}
-use Rattle.mir_func.specs.declared.location.Loc.{Loc}
-use Rattle.mir_func.specs.declared.variable.MarkValue.TheVariants.{Nothing, Constant, At, Pair}
-use Rattle.mir_func.specs.declared.item.Item.{Item}
-use Rattle.mir_func.specs.declared.item.ItemKind.{ItemKind}
-use Rattle.mir_func.specs.declared.item.ItemKind.TheVariants.{Code, Mark, Phi}
-use Rattle.mir_func.specs.declared.block.Block.{Block}
-use Rattle.mir_func.specs.Function.{Function}
-use Rattle.mir_func.specs.Limits.{MAX_SLOTS}
-use Rattle.mir_func.specs.Sound.{ids_of, items_of}
-use Rattle.mir_func.specs.Graph.{Program, below, block_start, program_of, Edge, Leads}
-use Rattle.mir_func.specs.Resolve.{resolve}
-use Rattle.mir_func.specs.Positions.{position_of, is_same_position}
-use Rattle.sem_mir.specs.Align.{is_code}
-use Rattle.sem_mir.specs.InitialState.{first_of}
-use Rattle.sem_mir.specs.Follow.{OnRow, GoesTo}
-use Rattle.sem_mir.specs.Live.{Live}
+use Rattle.sem_simulation.specs.rv64_instr.declared.operand.Operand.{Operand}
+use Rattle.sem_simulation.specs.rv64_instr.declared.operand.Operand.TheVariants.{Def, Use, ImplicitDef, ImplicitUse}
+use Rattle.sem_simulation.specs.rv64_instr.declared.operand.Operand.TheVariants.{Imm, Slot as OfSlot, Object as OfObject, Part, Outgoing, GlobalRegisters, Block as OfBlock}
+use Rattle.sem_simulation.specs.rv64_instr.declared.operand.Operand.TheVariants.{Symbol, Mask}
+use Rattle.sem_simulation.specs.rv64_instr.declared.place.Place.{Place}
+use Rattle.sem_simulation.specs.rv64_instr.declared.place.Place.TheVariants.{Register}
+use Rattle.sem_simulation.specs.rv64_instr.Instruction.{Instruction}
+use Rattle.sem_simulation.specs.rv64_instr.Row.{row_of}
+use Rattle.sem_simulation.specs.rv64_instr.LocationEffects.{has_implicit_uses, defines_of}
+use Rattle.sem_simulation.specs.mir_func.declared.position.Pos.{Pos}
+use Rattle.sem_simulation.specs.mir_func.declared.position.Origin.{Origin}
+use Rattle.sem_simulation.specs.mir_func.declared.position.Origin.TheVariants.{Kept, Before}
+use Rattle.sem_simulation.specs.mir_func.declared.location.Loc.{Loc}
+use Rattle.sem_simulation.specs.mir_func.declared.variable.MarkValue.TheVariants.{Nothing, Constant, At, Pair}
+use Rattle.sem_simulation.specs.mir_func.declared.item.Item.{Item}
+use Rattle.sem_simulation.specs.mir_func.declared.item.ItemKind.{ItemKind}
+use Rattle.sem_simulation.specs.mir_func.declared.item.ItemKind.TheVariants.{Code, Mark, Phi}
+use Rattle.sem_simulation.specs.mir_func.declared.block.Block.{Block}
+use Rattle.sem_simulation.specs.mir_func.Function.{Function}
+use Rattle.sem_simulation.specs.mir_func.Limits.{MAX_SLOTS}
+use Rattle.sem_simulation.specs.mir_func.Sound.{ids_of, items_of}
+use Rattle.sem_simulation.specs.mir_func.Graph.{Program, below, block_start, program_of, Edge, Leads}
+use Rattle.sem_simulation.specs.mir_func.Resolve.{resolve}
+use Rattle.sem_simulation.specs.mir_func.Positions.{position_of, is_same_position}
+use Rattle.sem_simulation.specs.sem_mir.Align.{is_code}
+use Rattle.sem_simulation.specs.sem_mir.InitialState.{first_of}
+use Rattle.sem_simulation.specs.sem_mir.Follow.{OnRow, GoesTo}
+use Rattle.sem_simulation.specs.sem_mir.Live.{Live}
 use Rattle.pass_trait.specs.declared.loss.Reason.{Reason}
 use Rattle.pass_trait.specs.declared.loss.Reason.TheVariants.{Removed, WrongPlace, Scratch, Bypassed, Unreachable, NoScratch, CallNamed, EntryLoop, NoSlot}
 use Rattle.pass_trait.specs.declared.loss.Lost.{Lost}
@@ -51,6 +51,7 @@ is_of_register counts r (OfSlot n) = false
 is_of_register counts r (OfObject n) = false
 is_of_register counts r (Part half y) = false
 is_of_register counts r (Outgoing n) = false
+is_of_register counts r GlobalRegisters = false
 is_of_register counts r (OfBlock n) = false
 is_of_register counts r (Symbol name) = false
 is_of_register counts r Mask = false
@@ -60,6 +61,18 @@ abbrev pub names : ℕ → ItemKind → Bool
 names r (Code i k) = list_any (is_of_register (has_implicit_uses (row_of i)) r) i.operands
 names r (Mark v m) = false
 names r (Phi p k) = false
+
+-- the operand is an implicit one of this register
+abbrev pub is_implicit_of : ℕ → Operand → Bool
+is_implicit_of r (ImplicitDef s) = nat_eq s r
+is_implicit_of r (ImplicitUse s) = nat_eq s r
+is_implicit_of r _ = false
+
+-- a call or code that ends the function, which names the register in an implicit operand
+abbrev pub names_implicitly : ℕ → ItemKind → Bool
+names_implicitly r (Code i k) = has_implicit_uses (row_of i) && list_any (is_implicit_of r) i.operands
+names_implicitly r (Mark v m) = false
+names_implicitly r (Phi p k) = false
 
 -- some code of the function names the register
 abbrev pub is_named : Function → ℕ → Bool
@@ -216,13 +229,13 @@ module _ (rule : Rule) (c : Change) where
     code_unreachable : {i : Instruction} {o : Origin} {l : Loc} {k : ℕ} → StandsAt c.old at (item (Code i (Some k)) o l) →
         (IsReached c at.block → ⊥) → IsGoneBlock c at.block → HasCause at (number_lost k Unreachable)
 
-  -- The condition under which a register isn't spilled for a reason: fewer than two scratch registers are free; a call, code that
-  -- ends the function or added code names the register; it is live into the first block, which is the target of some branch; the new function has
+  -- The condition under which a register isn't spilled for a reason: fewer than two scratch registers are free; a call or code that
+  -- ends the function names the register in an implicit operand, or added code names it; it is live into the first block, which is the target of some branch; the new function has
   -- `MAX_SLOTS` slots and stack objects, and only lower registers are spilled
   abbrev pub Prevents : Reason → ℕ → Type 0
   Prevents NoScratch r = length (scratch_of c.old) < 2
-  Prevents CallNamed r = (i : Item) × Contains (items_of c.old.blocks) i × (names r i.kind ≡ true) ×
-      (OnRow (λ row. has_implicit_uses row ≡ true) i.kind ⊎ (i.origin ≡ Before (position_of i.origin)))
+  Prevents CallNamed r = (i : Item) × Contains (items_of c.old.blocks) i ×
+      ((names_implicitly r i.kind ≡ true) ⊎ ((names r i.kind ≡ true) × (i.origin ≡ Before (position_of i.origin))))
   Prevents EntryLoop r = Live (old_program c) (Register r) (old_start c) ×
       ((p : Pos) × (i : Item) × StandsAt c.old p i × OnRow (GoesTo (first_of c.old.blocks)) i.kind)
   Prevents NoSlot r = (length c.new.slots + length c.new.objects ≡ MAX_SLOTS) × ((s slot : ℕ) → rule.spills c s slot → s < r)

@@ -1,7 +1,7 @@
 -- The input and the output of a pass.
 use Rattle.std.specs.Prelude.{List}
-use Rattle.mir_func.specs.declared.debug_substitution.DebugSubstitution.{DebugSubstitution}
-use Rattle.mir_func.specs.Function.{Function}
+use Rattle.sem_simulation.specs.mir_func.declared.debug_substitution.DebugSubstitution.{DebugSubstitution}
+use Rattle.sem_simulation.specs.mir_func.Function.{Function}
 
 -- a function with its substitutions, before a pass and after it
 pub record Change : Type 0 where

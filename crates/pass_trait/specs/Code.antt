@@ -1,11 +1,11 @@
 -- The second law of passes: a pass's code rule. Its functions are stripped of debug values, DBG_PHIs and numbers.
 use Rattle.std.specs.Prelude.{◌≡◌, map}
-use Rattle.mir_func.specs.declared.position.Origin.{Origin}
-use Rattle.mir_func.specs.declared.position.Origin.TheVariants.{Kept, Before}
-use Rattle.mir_func.specs.declared.location.Loc.TheVariants.{Absent}
-use Rattle.mir_func.specs.declared.item.Item.{Item}
-use Rattle.mir_func.specs.declared.block.Block.{Block}
-use Rattle.mir_func.specs.Function.{Function}
+use Rattle.sem_simulation.specs.mir_func.declared.position.Origin.{Origin}
+use Rattle.sem_simulation.specs.mir_func.declared.position.Origin.TheVariants.{Kept, Before}
+use Rattle.sem_simulation.specs.mir_func.declared.location.Loc.TheVariants.{Absent}
+use Rattle.sem_simulation.specs.mir_func.declared.item.Item.{Item}
+use Rattle.sem_simulation.specs.mir_func.declared.block.Block.{Block}
+use Rattle.sem_simulation.specs.mir_func.Function.{Function}
 
 -- a code rule: which functions a pass may make of which function
 abbrev pub CodeRule : Type 1

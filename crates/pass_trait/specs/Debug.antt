@@ -1,26 +1,26 @@
 -- The third law of passes, the debug rule: each debug value, DBG_PHI, number and substitution is kept, or its loss is reported.
 use Rattle.std.specs.Prelude.{◌≡◌, ◌⊎◌, ℕ, ◌<◌, ◌≤◌, suc, List, [], ◌∷◌, ◌++◌, Option, Some, None, Bool, true, not, ◌&&◌, All, Contains}
-use Rattle.rv64_instr.specs.declared.place.Place.{Place}
-use Rattle.rv64_instr.specs.declared.place.Place.TheVariants.{Register, Slot, Const}
-use Rattle.rv64_instr.specs.Instruction.{Instruction}
-use Rattle.rv64_instr.specs.Row.{row_of}
-use Rattle.rv64_instr.specs.DefsAndUses.{sets}
-use Rattle.mir_func.specs.declared.position.Pos.{Pos}
-use Rattle.mir_func.specs.declared.position.Origin.{Origin}
-use Rattle.mir_func.specs.declared.position.Origin.TheVariants.{Before}
-use Rattle.mir_func.specs.declared.location.Loc.{Loc}
-use Rattle.mir_func.specs.declared.variable.VarId.{VarId}
-use Rattle.mir_func.specs.declared.variable.MarkValue.{MarkValue}
-use Rattle.mir_func.specs.declared.variable.MarkValue.TheVariants.{Nothing, Constant, At, Pair}
-use Rattle.mir_func.specs.declared.item.Item.{Item}
-use Rattle.mir_func.specs.declared.item.ItemKind.{ItemKind}
-use Rattle.mir_func.specs.declared.item.ItemKind.TheVariants.{Code, Mark, Phi}
-use Rattle.mir_func.specs.declared.block.Block.{Block}
-use Rattle.mir_func.specs.declared.debug_substitution.OperandPair.{OperandPair}
-use Rattle.mir_func.specs.declared.debug_substitution.DebugSubstitution.{DebugSubstitution}
-use Rattle.mir_func.specs.Graph.{below, block_start}
-use Rattle.mir_func.specs.Resolve.{entry_of, Ends}
-use Rattle.mir_func.specs.Positions.{position_of}
+use Rattle.sem_simulation.specs.rv64_instr.declared.place.Place.{Place}
+use Rattle.sem_simulation.specs.rv64_instr.declared.place.Place.TheVariants.{Register, Slot, Const}
+use Rattle.sem_simulation.specs.rv64_instr.Instruction.{Instruction}
+use Rattle.sem_simulation.specs.rv64_instr.Row.{row_of}
+use Rattle.sem_simulation.specs.rv64_instr.DefsAndUses.{sets}
+use Rattle.sem_simulation.specs.mir_func.declared.position.Pos.{Pos}
+use Rattle.sem_simulation.specs.mir_func.declared.position.Origin.{Origin}
+use Rattle.sem_simulation.specs.mir_func.declared.position.Origin.TheVariants.{Before}
+use Rattle.sem_simulation.specs.mir_func.declared.location.Loc.{Loc}
+use Rattle.sem_simulation.specs.mir_func.declared.variable.VarId.{VarId}
+use Rattle.sem_simulation.specs.mir_func.declared.variable.MarkValue.{MarkValue}
+use Rattle.sem_simulation.specs.mir_func.declared.variable.MarkValue.TheVariants.{Nothing, Constant, At, Pair}
+use Rattle.sem_simulation.specs.mir_func.declared.item.Item.{Item}
+use Rattle.sem_simulation.specs.mir_func.declared.item.ItemKind.{ItemKind}
+use Rattle.sem_simulation.specs.mir_func.declared.item.ItemKind.TheVariants.{Code, Mark, Phi}
+use Rattle.sem_simulation.specs.mir_func.declared.block.Block.{Block}
+use Rattle.sem_simulation.specs.mir_func.declared.debug_substitution.OperandPair.{OperandPair}
+use Rattle.sem_simulation.specs.mir_func.declared.debug_substitution.DebugSubstitution.{DebugSubstitution}
+use Rattle.sem_simulation.specs.mir_func.Graph.{below, block_start}
+use Rattle.sem_simulation.specs.mir_func.Resolve.{entry_of, Ends}
+use Rattle.sem_simulation.specs.mir_func.Positions.{position_of}
 use Rattle.pass_trait.specs.declared.loss.Reason.{Reason}
 use Rattle.pass_trait.specs.declared.loss.Reason.TheVariants.{Removed, WrongPlace, Scratch, Bypassed, Unreachable, NoScratch, CallNamed, EntryLoop, NoSlot}
 use Rattle.pass_trait.specs.declared.loss.Loss.{Loss}
@@ -28,7 +28,7 @@ use Rattle.pass_trait.specs.Change.{Change}
 use Rattle.pass_trait.specs.Order.{IsInOrder}
 use Rattle.pass_trait.specs.Rule.{Rule, IsCopy, IsJump, number_lost, mark_lost, register_lost, item, item_before, first_operand, StandsAt, numbers_on}
 use Rattle.pass_trait.specs.Rule.{Has}
-use Rattle.sem_mir.specs.Align.{is_code, is_jump}
+use Rattle.sem_simulation.specs.sem_mir.Align.{is_code, is_jump}
 use Rattle.pass_trait.specs.Causes.{HasCause, IsFirstCause, IsFewer, IsMore, IsRemoved}
 
 -- what a loss means for what is lost: it is deleted; or it stays and is undef; or it is a register that stays unspilled

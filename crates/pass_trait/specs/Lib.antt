@@ -10,3 +10,7 @@ pub mod Sizes
 pub mod Laws
 pub mod Nops
 pub mod Tests
+pub use Rattle.sem_simulation.specs.mir_func as mir_func
+pub use Rattle.mir_substitution.specs as mir_substitution
+pub use Rattle.sem_simulation.specs.sem_mir as sem_mir
+pub use Rattle.sem_simulation.specs as sem_simulation

@@ -1,6 +1,6 @@
 -- The order of a pass's losses.
 use Rattle.std.specs.Prelude.{◌≡◌, ◌⊎◌, ℕ, ◌<◌, List, AllPairs}
-use Rattle.mir_func.specs.declared.position.Pos.{Pos}
+use Rattle.sem_simulation.specs.mir_func.declared.position.Pos.{Pos}
 use Rattle.pass_trait.specs.declared.loss.Reason.{Reason}
 use Rattle.pass_trait.specs.declared.loss.Reason.TheVariants.{Removed, WrongPlace, Scratch, Bypassed, Unreachable, NoScratch, CallNamed, EntryLoop, NoSlot}
 use Rattle.pass_trait.specs.declared.loss.Lost.{Lost}

@@ -1,20 +1,20 @@
 -- What a pass declares about its effect on debug items.
 use Rattle.std.specs.Prelude.{◌≡◌, ◌⊎◌, ◌↔◌, ℕ, suc, List, Option, Some, None, filter_map, Contains}
-use Rattle.rv64_instr.specs.declared.place.Place.{Place}
-use Rattle.rv64_instr.specs.Row.{Row, Moves, Jumps}
-use Rattle.mir_func.specs.declared.position.Pos.{Pos}
-use Rattle.mir_func.specs.declared.position.Origin.{Origin}
-use Rattle.mir_func.specs.declared.position.Origin.TheVariants.{Before}
-use Rattle.mir_func.specs.declared.location.Loc.{Loc}
-use Rattle.mir_func.specs.declared.location.Loc.TheVariants.{Absent}
-use Rattle.mir_func.specs.declared.item.Item.{Item}
-use Rattle.mir_func.specs.declared.item.ItemKind.{ItemKind}
-use Rattle.mir_func.specs.declared.debug_substitution.OperandPair.{OperandPair}
-use Rattle.mir_func.specs.declared.debug_substitution.DebugSubstitution.{DebugSubstitution}
-use Rattle.mir_func.specs.Function.{Function}
-use Rattle.mir_func.specs.Sound.{items_of, number_of}
-use Rattle.mir_func.specs.Graph.{Here, fetch_in, from_block}
-use Rattle.mir_func.specs.Positions.{position_of}
+use Rattle.sem_simulation.specs.rv64_instr.declared.place.Place.{Place}
+use Rattle.sem_simulation.specs.rv64_instr.Row.{Row, Moves, Jumps}
+use Rattle.sem_simulation.specs.mir_func.declared.position.Pos.{Pos}
+use Rattle.sem_simulation.specs.mir_func.declared.position.Origin.{Origin}
+use Rattle.sem_simulation.specs.mir_func.declared.position.Origin.TheVariants.{Before}
+use Rattle.sem_simulation.specs.mir_func.declared.location.Loc.{Loc}
+use Rattle.sem_simulation.specs.mir_func.declared.location.Loc.TheVariants.{Absent}
+use Rattle.sem_simulation.specs.mir_func.declared.item.Item.{Item}
+use Rattle.sem_simulation.specs.mir_func.declared.item.ItemKind.{ItemKind}
+use Rattle.sem_simulation.specs.mir_func.declared.debug_substitution.OperandPair.{OperandPair}
+use Rattle.sem_simulation.specs.mir_func.declared.debug_substitution.DebugSubstitution.{DebugSubstitution}
+use Rattle.sem_simulation.specs.mir_func.Function.{Function}
+use Rattle.sem_simulation.specs.mir_func.Sound.{items_of, number_of}
+use Rattle.sem_simulation.specs.mir_func.Graph.{Here, fetch_in, from_block}
+use Rattle.sem_simulation.specs.mir_func.Positions.{position_of}
 use Rattle.pass_trait.specs.declared.loss.Reason.{Reason}
 use Rattle.pass_trait.specs.declared.loss.Lost.TheVariants as lost
 use Rattle.pass_trait.specs.declared.loss.Loss.{Loss}

@@ -1,10 +1,10 @@
 -- The first law of passes: a pass preserves the simulation of a source.
 use Rattle.std.specs.Prelude.{◌≡◌, List, Bool, IsTrue}
-use Rattle.mir_func.specs.declared.debug_substitution.DebugSubstitution.{DebugSubstitution}
-use Rattle.mir_func.specs.Function.{Function}
-use Rattle.mir_func.specs.Sound.{AllItems, IsSound, HasForm}
-use Rattle.mir_func.specs.Resolve.{resolve}
-use Rattle.sem_mir.specs.Follow.{Follows, HasWholeEnds, IsRead}
+use Rattle.sem_simulation.specs.mir_func.declared.debug_substitution.DebugSubstitution.{DebugSubstitution}
+use Rattle.sem_simulation.specs.mir_func.Function.{Function}
+use Rattle.sem_simulation.specs.mir_func.Sound.{AllItems, IsSound, HasForm}
+use Rattle.sem_simulation.specs.mir_func.Resolve.{resolve}
+use Rattle.sem_simulation.specs.sem_mir.Follow.{Follows, HasWholeEnds, IsRead}
 use Rattle.pass_trait.specs.Change.{Change}
 
 -- a source: a function as it was parsed, with its substitutions; it is sound, and its code has the required forms

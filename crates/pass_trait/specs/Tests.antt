@@ -1,9 +1,9 @@
 -- Statements that tests check about the definitions.
 use Rattle.std.specs.Prelude.{◌≡◌, ℕ, ◌<◌, List, map, length, cond, nat_eq, false}
-use Rattle.rv64_instr.specs.declared.place.Place.TheVariants.{Register}
-use Rattle.mir_func.specs.declared.position.Pos.{Pos}
-use Rattle.mir_func.specs.declared.debug_substitution.DebugSubstitution.{DebugSubstitution}
-use Rattle.mir_func.specs.Function.{Function}
+use Rattle.sem_simulation.specs.rv64_instr.declared.place.Place.TheVariants.{Register}
+use Rattle.sem_simulation.specs.mir_func.declared.position.Pos.{Pos}
+use Rattle.sem_simulation.specs.mir_func.declared.debug_substitution.DebugSubstitution.{DebugSubstitution}
+use Rattle.sem_simulation.specs.mir_func.Function.{Function}
 use Rattle.pass_trait.specs.Change.{change}
 use Rattle.pass_trait.specs.Code.{CodeRule}
 use Rattle.pass_trait.specs.Causes.{IsWrong}

@@ -5,8 +5,8 @@ ghost use Rattle.std.proofs.Common.{rules};
 
 use crate::loss::Losses;
 use crate::pass::Pass;
-use mir_func::func::Func;
 use mir_substitution::substitutions::Substitutions;
+use sem_simulation::mir_func_crate::func::Func;
 use std::alloc::{AllocError, Global};
 
 /// The pass that does nothing.

@@ -8,6 +8,8 @@
 //! itself. Passes compose: `Then` runs one after another and has the laws of both.
 #![tactic(auto)]
 
+pub use mir_substitution as mir_substitution_crate;
+
 pub mod compose;
 pub mod loss;
 pub mod nops;

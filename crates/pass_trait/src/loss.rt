@@ -1,8 +1,8 @@
 //! What passes lose of debug information, and for which reasons.
-use base_ids::function_ids::DebugNumber;
-use base_list::List;
-use mir_func::position::Pos;
-use rv64_instr::reg::Reg;
+use mir_substitution::base_ids_crate::function_ids::DebugNumber;
+use mir_substitution::base_list_crate::List;
+use sem_simulation::mir_func_crate::position::Pos;
+use sem_simulation::rv64_instr_crate::reg::Reg;
 
 /// Why something is lost. The order is that of reports.
 #[derive(Clone, Copy, Debug, PartialEq, Eq, PartialOrd, Ord)]

@@ -1,8 +1,8 @@
 //! A small example pass that removes no-operations, as a pattern for new passes.
 ghost use Rattle.std.specs.Prelude.{◌≡◌, ◌++◌, [], ◌∷◌, true, false, filter, IfOk, OnOk};
 ghost use Rattle.std.specs.List.{list_any};
-ghost use Rattle.rv64_instr.specs.Row.{row_of};
-ghost use Rattle.mir_func.specs.Sound.{IsSound};
+ghost use Rattle.sem_simulation.specs.rv64_instr.Row.{row_of};
+ghost use Rattle.sem_simulation.specs.mir_func.Sound.{IsSound};
 ghost use Rattle.pass_trait.specs.Order.{IsInOrder};
 ghost use Rattle.pass_trait.specs.Rule.{AreNumbersLost};
 ghost use Rattle.pass_trait.specs.Laws.{one_thinned, same_thinned};
@@ -12,14 +12,14 @@ ghost use Rattle.std.proofs.Common.{rules};
 
 use crate::loss::{Loss, Losses, Lost, Reason};
 use crate::pass::Pass;
-use base_ids::function_ids::DebugNumber;
-use mir_func::block::Block;
-use mir_func::func::Func;
-use mir_func::item::{Item, ItemKind};
-use mir_func::position::Origin;
+use mir_substitution::base_ids_crate::function_ids::DebugNumber;
 use mir_substitution::substitutions::Substitutions;
-use rv64_instr::decoded::Decoded;
-use rv64_instr::instr::Instr;
+use sem_simulation::mir_func_crate::block::Block;
+use sem_simulation::mir_func_crate::func::Func;
+use sem_simulation::mir_func_crate::item::{Item, ItemKind};
+use sem_simulation::mir_func_crate::position::Origin;
+use sem_simulation::rv64_instr_crate::decoded::Decoded;
+use sem_simulation::rv64_instr_crate::instr::Instr;
 use std::alloc::{AllocError, Global};
 
 /// Removes no-operations: constant definitions of x0. Their numbers are lost. A function to which slot stores were

@@ -1,6 +1,6 @@
 //! The trait of passes, and the laws that each pass keeps.
 ghost use Rattle.std.specs.Prelude.{◌≡◌, ℕ, ◌+◌, ◌*◌, ◌<◌, ◌≤◌, ◌^◌, List, Bool, IsTrue, IfOk, OnOk};
-ghost use Rattle.mir_func.specs.Limits.{MAX_SLOTS};
+ghost use Rattle.sem_simulation.specs.mir_func.Limits.{MAX_SLOTS};
 ghost use Rattle.pass_trait.specs.Change.{change};
 ghost use Rattle.pass_trait.specs.Simulation.{PreservesSimulation};
 ghost use Rattle.pass_trait.specs.Code.{HasOneResult, SeesCodeAlone};
@@ -8,8 +8,8 @@ ghost use Rattle.pass_trait.specs.Steps.{PassStep, EachCode, KeepsSteps, MakeCod
 ghost use Rattle.pass_trait.specs.Sizes.{greatest, greatest_number, most_numbers, KeepsSizes};
 
 use crate::loss::Losses;
-use mir_func::func::Func;
 use mir_substitution::substitutions::Substitutions;
+use sem_simulation::mir_func_crate::func::Func;
 use std::alloc::{AllocError, Global};
 
 /// A transformation of a function and its substitutions, with its guarantees. A pass states the facts below of itself,

@@ -3,3 +3,4 @@ pub mod Limits
 pub mod Body
 pub mod Closing
 pub mod StackEntryKind
+pub use Rattle.read_declarations.specs as read_declarations

@@ -6,6 +6,9 @@
 //! and a block's silent position is its number of items.
 #![tactic(auto)]
 
+pub use read_declarations as read_declarations_crate;
+pub use read_declarations::mir_substitution_crate as mir_substitution_crate;
+
 pub mod body;
 pub mod closing;
 pub mod first_use_order;

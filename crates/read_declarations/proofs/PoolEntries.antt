@@ -1,6 +1,6 @@
 -- The lines of a constant pool, and the digits of its values.
-use Rattle.std.proofs.Common.{◌≡◌, ℕ, ◌+◌, ◌-◌, ◌*◌, ◌<◌, ◌≤◌, Bool, true, false, cond, List, [], ◌∷◌, length, get_or, take, drop, Some, None, refl, sym, ap, ◌∙◌}
-use Rattle.std.proofs.Common.{arith}
+use Rattle.std.proofs.Common.{◌≡◌, ℕ, ◌+◌, ◌-◌, ◌*◌, ◌<◌, ◌≤◌, Bool, true, false, cond, List, [], ◌∷◌, length, get_or, take, drop, Option}
+use Rattle.std.proofs.Common.{Some, None, Ok, refl, sym, ap, ◌∙◌, arith}
 use Rattle.std.specs.Prelude.{nat_le}
 use Rattle.std.specs.Char.{digit_value}
 use Rattle.std.proofs.lemmas.Bool.{lt-leb, le-leb, leb-true, leb-false}
@@ -9,8 +9,12 @@ use Rattle.std.proofs.Math.Seq.{take-length}
 use Rattle.read_lexer.specs.declared.line.Line.{Line}
 use Rattle.read_metadata.specs.Number.{value_behind}
 use Rattle.read_metadata.proofs.Numbers.{grows}
+use Rattle.read_documents.specs.declared.parts.FunctionDocument.{FunctionDocument}
+use Rattle.read_refusal.specs.declared.first.Refusal.{Refusal}
 use Rattle.read_declarations.specs.declared.constants.PoolRead.{PoolRead}
-use Rattle.read_declarations.specs.Constants.{within, behind_line, pool_behind, constants_in}
+use Rattle.read_declarations.specs.declared.declarations.Declarations.{Declarations}
+use Rattle.read_declarations.specs.Constants.{within, behind_line, pool_behind, constants_in, pool_of}
+use Rattle.read_declarations.specs.Declarations.{refusal_of, declared_of, checked, declarations_of}
 
 -- ---- digits
 
@@ -45,21 +49,21 @@ digit_more most n d m ds i lt digit is read =
 
 -- a number that is above the limit already
 pub digits_above : (most n d : ℕ) (ds : List ℕ) (i : ℕ) → i < length ds → d ≡ digit_value (get_or ds i 0) → None ≡ within most (n * 10 + d) →
-    value_behind 10 n (drop i ds) ≡ value_behind 10 0 ds → false ≡ nat_le (value_behind 10 0 ds) most
+    value_behind 10 n (drop i ds) ≡ value_behind 10 0 ds → None ≡ within most (value_behind 10 0 ds)
 digits_above most n d ds i lt digit is read =
     let step : value_behind 10 (n * 10 + digit_value (get_or ds i 0)) (drop (i + 1) ds) ≡ value_behind 10 0 ds =
     ap (value_behind 10 n) (sym (drop_more ds i 0 lt)) ∙ read in
     let more = grows 10 (n * 10 + digit_value (get_or ds i 0)) (drop (i + 1) ds) (omega arith) in
     let large = within_not most (n * 10 + d) is in
     let over : most < value_behind 10 0 ds = omega (arith, step, more, digit, large) in
-    sym (lt-leb (value_behind 10 0 ds) most over)
+    sym (within_none most (value_behind 10 0 ds) over)
 
 -- all digits are read
 pub digits_within : (most n : ℕ) (ds : List ℕ) (i : ℕ) → length ds ≤ i → n ≤ most → value_behind 10 n (drop i ds) ≡ value_behind 10 0 ds →
-    true ≡ nat_le (value_behind 10 0 ds) most
+    Some n ≡ within most (value_behind 10 0 ds)
 digits_within most n ds i all small read =
     let same : n ≡ value_behind 10 0 ds = ap (value_behind 10 n) (sym (drop_all i ds all)) ∙ read in
-    sym (le-leb (value_behind 10 0 ds) most (omega (arith, same, small)))
+    sym (within_some most n small) ∙ ap (within most) same
 
 -- ---- lines
 
@@ -74,7 +78,7 @@ pub lines_all : (lines : List Line) (i : ℕ) (read whole : PoolRead) → length
 unfolding pool_behind
 lines_all lines i read whole all so_far = ap (pool_behind read) (sym (drop_all i lines all)) ∙ so_far
 
-pub no_constants : (lines : List Line) → length lines < 1 → constants_in lines ≡ record { ids = []; refused = None }
+pub no_constants : (lines : List Line) → length lines < 1 → constants_in lines ≡ record { constants = []; refused = None }
 no_constants [] less = refl
 no_constants (l ∷ ls) less = absurd (omega (arith, less))
 
@@ -83,3 +87,14 @@ pub first_and_rest : {X : Type 0} (xs : List X) (x : X) → 1 ≤ length xs → 
 first_and_rest {X} xs x some is =
     ap (λ (n : ℕ). x ∷ take n (drop 1 xs)) (sym (length-drop 1 xs)) ∙ ap (λ (t : List X). x ∷ t) (take-length (drop 1 xs))
     ∙ ap (λ (y : X). y ∷ drop 1 xs) is ∙ sym (drop_more xs 0 x (omega (arith, some)))
+
+-- ---- the language
+
+-- a function that isn't of the linked language has no constants
+pub plain_pool : (doc : FunctionDocument) (d : Declarations) → declarations_of doc ≡ Ok d → doc.linked ≡ false → d.pool ≡ []
+plain_pool doc d read plain = by (refusal_of doc) read where
+  by : (refused : Option Refusal) → checked refused (declared_of doc) ≡ Ok d → d.pool ≡ []
+  by (Some r) e = absurd cc
+  by None e =
+      let same : declared_of doc ≡ d = cc in
+      ap (λ (x : Declarations). x.pool) (sym same) ∙ ap (λ (b : Bool). (pool_of b doc.constants).constants) plain

@@ -1,5 +1,5 @@
 -- The stream of a key's lines is read line by line.
-use Rattle.std.proofs.Common.{◌≡◌, ℕ, ◌+◌, ◌<◌, ◌≤◌, List, ◌∷◌, ◌++◌, length, map, get_or, drop, Option, Some, None, sym, ap, ◌∙◌, append_assoc}
+use Rattle.std.proofs.Common.{false, ◌≡◌, ℕ, ◌+◌, ◌<◌, ◌≤◌, List, ◌∷◌, ◌++◌, length, map, get_or, drop, Option, Some, None, sym, ap, ◌∙◌, append_assoc}
 use Rattle.std.proofs.lemmas.List.{append-nil, drop_more, drop_all}
 use Rattle.read_lexer.specs.declared.line.Line.{Line}
 use Rattle.read_lexer.specs.Line.{tokens_of}
@@ -12,7 +12,7 @@ use Rattle.read_declarations.specs.Stream.{line_tokens_of, piece_of, before_line
 
 -- the tokens of a line
 abbrev pub read_of : Line → LineTokens
-read_of line = line_tokens_of (before_comment line.text) (tokens_of (before_comment line.text))
+read_of line = line_tokens_of (before_comment line.text) (tokens_of false (before_comment line.text))
 
 module _ (lines : List Line) (at : ℕ) (here : Line) (ps : List YamlToken) where
   -- the tokens behind a line

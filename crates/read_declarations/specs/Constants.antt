@@ -1,7 +1,7 @@
 -- The entries of `constants`, the function's constant pool, in block style. (YAML 1.2, "Block Sequences", "Block Mappings" and "Single-Quoted Style"; LLVM,
 -- "Machine IR (MIR) Format Reference Manual", has the list; its fields are those of `MachineConstantPoolValue`.)
-use Rattle.std.specs.Prelude.{◌≡◌, ℕ, suc, Bool, false, not, ◌&&◌, ◌||◌, ◌==◌, nat_eq, nat_le, nat_lt, if◌then◌else◌, is_some, codes}
-use Rattle.std.specs.Prelude.{List, [], ◌∷◌, ◌++◌, take, drop, length, slice_get, Option, Some, None}
+use Rattle.std.specs.Prelude.{◌≡◌, ℕ, suc, ◌-◌, ◌^◌, Bool, false, not, ◌&&◌, ◌||◌, ◌==◌, nat_eq, nat_le, nat_lt, if◌then◌else◌, is_some, codes}
+use Rattle.std.specs.Prelude.{List, [], ◌∷◌, ◌++◌, take, drop, length, slice_get, Option, Some, None, option_map}
 use Rattle.std.specs.List.{list_all, list_any, prefix_len, position, starts_with}
 use Rattle.std.specs.Ordering.{nat_cmp}
 use Rattle.std.specs.BTreeSet.{BTreeSet, contains}
@@ -10,8 +10,13 @@ use Rattle.std.specs.Char.{is_ascii_alphabetic, is_ascii_digit}
 use Rattle.read_lexer.specs.declared.line.Line.{Line}
 use Rattle.read_lexer.specs.Bytes.{is_blank}
 use Rattle.read_metadata.specs.Number.{value_behind, spelled}
+use Rattle.mir_pool.specs.declared.constant.IntegerType.{IntegerType}
+use Rattle.mir_pool.specs.declared.constant.IntegerType.TheVariants.{Bits8, Bits16, Bits32, Bits64, Bits128}
+use Rattle.mir_pool.specs.declared.constant.PoolConstant.{PoolConstant}
+use Rattle.mir_pool.specs.Pool.{bits_of, constant_ids}
 use Rattle.read_refusal.specs.declared.first.Refusal.{Refusal}
 use Rattle.read_refusal.specs.First.{earlier}
+use Rattle.read_declarations.specs.declared.constant_value.TypedValue.{TypedValue}
 use Rattle.read_declarations.specs.declared.constants.PoolRead.{PoolRead}
 use Rattle.read_declarations.specs.FlowMapping.{bad_line}
 
@@ -92,29 +97,43 @@ value_of text = value_by text (key_len text)
 abbrev pub within : (most n : ℕ) → Option ℕ
 within most n = if nat_le n most then Some n else None
 
--- digits that spell a number up to `most`
-abbrev pub spells_up_to : (most : ℕ) → List ℕ → Bool
-spells_up_to most digits = nat_lt 0 (length digits) && (list_all is_ascii_digit digits && nat_le (value_behind 10 0 digits) most)
+-- the number that digits spell, if it is at most `most`
+abbrev pub number_up_to : (most : ℕ) → List ℕ → Option ℕ
+number_up_to most digits = if nat_lt 0 (length digits) && list_all is_ascii_digit digits then within most (value_behind 10 0 digits) else None
 
--- an integer from -`least` to `most`
-abbrev pub spells_between : (least most : ℕ) → List ℕ → Bool
-spells_between least most [] = false
-spells_between least most (a ∷ bs) = if a == 45 then spells_up_to least bs else spells_up_to most (a ∷ bs)
+-- the negative of a number in two's complement, as an integer of a type without a sign
+abbrev pub negated : IntegerType → ℕ → ℕ
+negated t n = if n == 0 then 0 else 2 ^ bits_of t - n
 
--- such an integer behind the text of its type
-abbrev pub is_typed : (type : List ℕ) → (least most : ℕ) → List ℕ → Bool
-is_typed type least most text = starts_with nat_eq text type && spells_between least most (drop (length type) text)
+-- the integer of a type that a text spells, signed or unsigned, as one without a sign
+abbrev pub integer_in : IntegerType → List ℕ → Option ℕ
+integer_in t [] = None
+integer_in t (a ∷ bs) =
+    if a == 45 then option_map (negated t) (number_up_to (2 ^ (bits_of t - 1)) bs) else number_up_to (2 ^ bits_of t - 1) (a ∷ bs)
 
--- the value of a constant: an integer of 8, 16, 32, 64 or 128 bits, signed or unsigned, behind its type
-abbrev pub is_value : List ℕ → Bool
-is_value text = is_typed (codes "i8 ") 128 255 text || (is_typed (codes "i16 ") 32768 65535 text || (is_typed (codes "i32 ") 2147483648 4294967295 text ||
-    (is_typed (codes "i64 ") 9223372036854775808 18446744073709551615 text ||
-    is_typed (codes "i128 ") 170141183460469231731687303715884105728 340282366920938463463374607431768211455 text)))
+-- a value of a type, if there is one
+abbrev pub of_type : IntegerType → Option ℕ → Option TypedValue
+of_type t None = None
+of_type t (Some n) = Some (record { integer = t; value = n })
 
--- the alignment of a constant: 1, 2, 4, 8 or 16 bytes
+-- the value behind the name of its type, or what it is otherwise
+abbrev pub typed_or : (name : List ℕ) → IntegerType → List ℕ → Option TypedValue → Option TypedValue
+typed_or name t text other = if starts_with nat_eq text name then of_type t (integer_in t (drop (length name) text)) else other
+
+-- the value of a constant: an integer of 8, 16, 32, 64 or 128 bits behind its type
+abbrev pub typed_value : List ℕ → Option TypedValue
+typed_value text =
+    typed_or (codes "i8 ") Bits8 text (typed_or (codes "i16 ") Bits16 text (typed_or (codes "i32 ") Bits32 text (typed_or (codes "i64 ") Bits64 text
+    (typed_or (codes "i128 ") Bits128 text None))))
+
+-- 1, 2, 4, 8 or 16
 abbrev pub is_alignment : List ℕ → Bool
 is_alignment text = bytes_eq text (codes "1") || (bytes_eq text (codes "2") || (bytes_eq text (codes "4") ||
     (bytes_eq text (codes "8") || bytes_eq text (codes "16"))))
+
+-- the alignment of a constant in bytes
+abbrev pub alignment_of : List ℕ → Option ℕ
+alignment_of text = if is_alignment text then spelled 10 text else None
 
 -- the number of a constant, from 0 to 2^30 - 1
 abbrev pub id_of : List ℕ → Option ℕ
@@ -165,23 +184,32 @@ abbrev pub some_key : Option Line → Bool
 some_key None = false
 some_key (Some l) = has_key l.text
 
--- the lines are an entry: the first has a key, others go on, each key stands once, and the value and the alignment are those of a constant
-abbrev pub is_entry : List Line → Bool
-is_entry lines = some_key (slice_get lines 0) && (list_all goes_on (drop 1 lines) && (list_all (is_once lines) lines &&
-    (is_value (value_in (codes "value") lines) && is_alignment (value_in (codes "alignment") lines))))
+-- lines that an entry may have: the first has a key, others go on, and each key stands once
+abbrev pub is_formed : List Line → Bool
+is_formed lines = some_key (slice_get lines 0) && (list_all goes_on (drop 1 lines) && list_all (is_once lines) lines)
 
--- a number, if it isn't among these
-abbrev pub if_new : List ℕ → Option ℕ → Option ℕ
+-- the constant of a number, a value and an alignment
+abbrev pub constant_with : Option ℕ → Option TypedValue → Option ℕ → Option PoolConstant
+constant_with None v a = None
+constant_with (Some n) None a = None
+constant_with (Some n) (Some v) None = None
+constant_with (Some n) (Some v) (Some a) = Some (record { id = n; integer = v.integer; value = v.value; alignment = a })
+
+-- the constant of an entry, if the lines are one
+abbrev pub entry_constant : List Line → Option PoolConstant
+entry_constant lines =
+    if is_formed lines
+    then constant_with (id_of (value_in (codes "id") lines)) (typed_value (value_in (codes "value") lines)) (alignment_of (value_in (codes "alignment") lines))
+    else None
+
+-- a constant, if its number isn't among these
+abbrev pub if_new : List ℕ → Option PoolConstant → Option PoolConstant
 if_new ids None = None
-if_new ids (Some n) = if list_any (nat_eq n) ids then None else Some n
+if_new ids (Some c) = if list_any (nat_eq c.id) ids then None else Some c
 
--- the number of an entry, if the lines are one
-abbrev pub entry_number : List Line → Option ℕ
-entry_number lines = if is_entry lines then id_of (value_in (codes "id") lines) else None
-
--- the number of a constant behind others with these numbers, if the lines are an entry and the number is new
-abbrev pub constant_of : List ℕ → List Line → Option ℕ
-constant_of ids lines = if_new ids (entry_number lines)
+-- the constant behind others with these numbers, if the lines are an entry and its number is new
+abbrev pub constant_of : List ℕ → List Line → Option PoolConstant
+constant_of ids lines = if_new ids (entry_constant lines)
 
 -- a set contains these numbers and no others
 abbrev pub AreNumbers : BTreeSet ℕ → List ℕ → Type 0
@@ -197,14 +225,14 @@ lines_before lines = prefix_len (λ l. not (opens l.text)) lines
 abbrev pub first_entry : List Line → List Line
 first_entry lines = take (suc (lines_before (drop 1 lines))) lines
 
--- the numbers and the first refusal behind an entry, which may be none
-abbrev pub with_constant : PoolRead → (line : ℕ) → Option ℕ → PoolRead
+-- the constants and the first refusal behind an entry, which may be none
+abbrev pub with_constant : PoolRead → (line : ℕ) → Option PoolConstant → PoolRead
 with_constant read line None = record read { refused = earlier read.refused (Some (bad_line line)) }
-with_constant read line (Some n) = record read { ids = read.ids ++ n ∷ [] }
+with_constant read line (Some c) = record read { constants = read.constants ++ c ∷ [] }
 
 -- the same behind a line, which may begin an entry; `left` are it and those behind it
 abbrev pub behind_line : PoolRead → Line → (left : List Line) → PoolRead
-behind_line read l left = if opens l.text then with_constant read l.number (constant_of read.ids (first_entry left)) else read
+behind_line read l left = if opens l.text then with_constant read l.number (constant_of (constant_ids read.constants) (first_entry left)) else read
 
 -- the same behind further lines
 unfoldable pub pool_behind : PoolRead → List Line → PoolRead
@@ -228,12 +256,12 @@ stray lines = bad_if_there (line_at_index (take (lines_before lines) lines) (pos
 abbrev pub is_no_pool : List ℕ → Bool
 is_no_pool text = starts_with nat_eq (behind_spaces (drop 10 text)) (codes "[]") && is_blank_line (drop 2 (behind_spaces (drop 10 text)))
 
--- the numbers of the constants in the lines of `constants`, and the first refusal
+-- the constants in the lines of `constants`, and the first refusal
 abbrev pub constants_in : List Line → PoolRead
-constants_in [] = record { ids = []; refused = None }
+constants_in [] = record { constants = []; refused = None }
 constants_in (key ∷ lines) =
-    if is_no_pool key.text then record { ids = []; refused = None } else pool_behind (record { ids = []; refused = stray lines }) lines
+    if is_no_pool key.text then record { constants = []; refused = None } else pool_behind (record { constants = []; refused = stray lines }) lines
 
--- the numbers of a function's constants: the language that isn't linked has none
+-- the constants of a function's pool: the language that isn't linked has none
 abbrev pub pool_of : (linked : Bool) → List Line → PoolRead
-pool_of linked lines = if linked then constants_in lines else record { ids = []; refused = None }
+pool_of linked lines = if linked then constants_in lines else record { constants = []; refused = None }

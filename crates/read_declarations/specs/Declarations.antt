@@ -1,4 +1,4 @@
--- The declarations of a function's document: its name, its stack entries, its debug value substitutions and its constants.
+-- The declarations of a function's document: its name, its stack entries, its debug value substitutions, its constants and what it exposes.
 use Rattle.std.specs.Prelude.{◌≡◌, List, [], ◌∷◌, Option, Some, None, Result, Ok, Err}
 use Rattle.read_documents.specs.declared.parts.FunctionDocument.{FunctionDocument}
 use Rattle.read_lexer.specs.declared.line.Line.{Line}
@@ -14,6 +14,7 @@ use Rattle.read_declarations.specs.Name.{name_of}
 use Rattle.read_declarations.specs.Stack.{stack_of}
 use Rattle.read_declarations.specs.Substitutions.{substitutions_of}
 use Rattle.read_declarations.specs.Constants.{pool_of}
+use Rattle.read_declarations.specs.Exposure.{exposure_of}
 
 -- No entry of `fixedStack` is supported: the first one is refused as a stack object. The result is the earlier of that and `refused`.
 abbrev pub fixed_entries : Option Refusal → List MappingEntry → Option Refusal
@@ -36,7 +37,8 @@ declared_of doc = record {
   name = (name_of doc.name).name;
   stack = (stack_of doc.stack).entries;
   substitutions = (substitutions_of doc.substitutions).entries;
-  pool = (pool_of doc.linked doc.constants).ids;
+  pool = (pool_of doc.linked doc.constants).constants;
+  exposure = exposure_of doc.linked doc.twice;
 }
 
 -- declarations, unless there is a refusal

@@ -6,4 +6,5 @@ pub mod Stack
 pub mod Substitutions
 pub mod Constants
 pub mod Name
+pub mod Exposure
 pub mod Declarations

@@ -1,6 +1,6 @@
 -- The name of a function: a word, or a text in quotes. (YAML 1.2, "Single-Quoted Style"; in double quotes `\XX` is a byte,
 -- as in LLVM's own texts.)
-use Rattle.std.specs.Prelude.{ℕ, Bool, true, ◌&&◌, ◌==◌, if◌then◌else◌, drop, List, [], ◌∷◌, Option, Some, None, Result, Ok, Err}
+use Rattle.std.specs.Prelude.{false, ℕ, Bool, true, ◌&&◌, ◌==◌, if◌then◌else◌, drop, List, [], ◌∷◌, Option, Some, None, Result, Ok, Err}
 use Rattle.std.specs.List.{flat_map, starts_with}
 use Rattle.std.specs.Prelude.{nat_eq}
 use Rattle.read_lexer.specs.declared.fault.LexError.{LexError}
@@ -76,7 +76,7 @@ name_read line (Err e) = record { name = []; refused = Some (record { line = lin
 
 -- the name on the key's own line
 abbrev pub name_of_line : Line → NameRead
-name_of_line line = name_read line (tokens_of line.text)
+name_of_line line = name_read line (tokens_of false line.text)
 
 -- The name in the lines of the key `name`: only the key's own line counts, and without lines the name is empty.
 abbrev pub name_of : List Line → NameRead

@@ -16,8 +16,8 @@ use Rattle.read_declarations.specs.declared.stack.StackEntry.{StackEntry}
 use Rattle.read_declarations.specs.declared.stack.StackRead.{StackRead}
 use Rattle.read_declarations.specs.Field.{value_at, needed, given, negated, is_variable_sized}
 use Rattle.read_declarations.specs.List.{list_of}
-use Rattle.mir_func.specs.Limits.{MAX_SLOTS}
-use Rattle.mir_func.specs.Objects.{local_count}
+use Rattle.mir_substitution.specs.mir_func.Limits.{MAX_SLOTS}
+use Rattle.mir_substitution.specs.mir_func.Objects.{local_count}
 
 -- whether a stack entry may have this alignment, in bytes
 abbrev pub is_alignment : ℕ → Bool

@@ -1,5 +1,5 @@
 -- The tokens of a key's lines, as one stream.
-use Rattle.std.specs.Prelude.{ℕ, ◌+◌, List, [], ◌∷◌, ◌++◌, map, take, slice_get, Option, Some, None, Result, Ok, Err}
+use Rattle.std.specs.Prelude.{false, ℕ, ◌+◌, List, [], ◌∷◌, ◌++◌, map, take, slice_get, Option, Some, None, Result, Ok, Err}
 use Rattle.read_lexer.specs.declared.fault.LexError.{LexError}
 use Rattle.read_lexer.specs.declared.fault.LexError.TheVariants as errors
 use Rattle.read_lexer.specs.declared.line.Line.{Line}
@@ -28,7 +28,7 @@ before_fault text errors.Memory = []
 -- itself: then that byte is left out too.
 abbrev pub tokens_up_to : List ℕ → Result (List Token) LexError → List Token
 tokens_up_to text (Ok ts) = ts
-tokens_up_to text (Err e) = tokens_or_none (tokens_of (before_fault text e))
+tokens_up_to text (Err e) = tokens_or_none (tokens_of false (before_fault text e))
 
 -- the refusal of a lexical fault; want of memory, which is no fault of the text, is mapped to BadByte
 abbrev pub kind_of : LexError → RefusalKind
@@ -39,7 +39,7 @@ kind_of errors.Memory = BadByte
 -- the tokens of a line's bytes up to the first fault, and that fault
 abbrev pub line_tokens_of : List ℕ → Result (List Token) LexError → LineTokens
 line_tokens_of text (Ok ts) = record { tokens = ts; fault = None }
-line_tokens_of text (Err e) = record { tokens = tokens_up_to (before_fault text e) (tokens_of (before_fault text e)); fault = Some (kind_of e) }
+line_tokens_of text (Err e) = record { tokens = tokens_up_to (before_fault text e) (tokens_of false (before_fault text e)); fault = Some (kind_of e) }
 
 -- a token of the line with index `at` and number `line`
 abbrev pub piece_of : ℕ → ℕ → Token → YamlToken
@@ -58,7 +58,7 @@ with_line at line read others = before_lines (map (piece_of at line) read.tokens
 unfoldable pub stream_from : ℕ → List Line → TokenStream
 stream_from at [] = record { pieces = []; fault = None }
 stream_from at (line ∷ lines) =
-    with_line at line.number (line_tokens_of (before_comment line.text) (tokens_of (before_comment line.text))) (stream_from (at + 1) lines)
+    with_line at line.number (line_tokens_of (before_comment line.text) (tokens_of false (before_comment line.text))) (stream_from (at + 1) lines)
 
 -- the tokens of a key's lines
 abbrev pub stream_of : List Line → TokenStream

@@ -1,8 +1,8 @@
 -- The entries of `debugValueSubstitutions`. (LLVM, "Instruction referencing for debug info".)
 use Rattle.std.specs.Prelude.{ℕ, codes, List, [], ◌∷◌, Option, Some, None}
 use Rattle.read_lexer.specs.declared.line.Line.{Line}
-use Rattle.mir_func.specs.declared.debug_substitution.OperandPair.{OperandPair}
-use Rattle.mir_func.specs.declared.debug_substitution.DebugSubstitution as func
+use Rattle.mir_substitution.specs.mir_func.declared.debug_substitution.OperandPair.{OperandPair}
+use Rattle.mir_substitution.specs.mir_func.declared.debug_substitution.DebugSubstitution as func
 use Rattle.mir_substitution.specs.Added.{added}
 use Rattle.read_refusal.specs.First.{earlier}
 use Rattle.read_declarations.specs.declared.entry.MappingField.{MappingField}

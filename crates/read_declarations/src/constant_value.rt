@@ -1,13 +1,34 @@
 //! The values of a constant of the pool.
 
-ghost use Rattle.std.specs.Prelude.{◌≡◌, ◌*◌, ◌+◌, nat_le};
+ghost use Rattle.std.specs.Prelude.{◌≡◌, ◌*◌, ◌+◌, ◌-◌, ◌^◌};
 ghost use Rattle.std.specs.List.{list_all};
 ghost use Rattle.std.specs.Char.{is_ascii_digit};
+ghost use Rattle.mir_pool.specs.Pool.{bits_of};
 ghost use Rattle.read_metadata.specs.Number.{value_behind};
-ghost use Rattle.read_declarations.specs.Constants.{within, spells_up_to, spells_between, is_typed, is_value, is_alignment, id_of};
+ghost use Rattle.read_declarations.specs.Constants.{
+  within,
+  number_up_to,
+  negated,
+  integer_in,
+  of_type,
+  typed_or,
+  typed_value,
+  is_alignment,
+  alignment_of,
+  id_of,
+};
 
 use crate::constant_line::from_index;
+use mir_pool::constant::IntegerType;
 use read_metadata::number::{digit_value, spelled};
+
+/// An integer of a type.
+#[derive(Clone, Copy, Debug, PartialEq, Eq)]
+pub struct TypedValue {
+    pub integer: IntegerType,
+    /// Its value without a sign.
+    pub value: u128,
+}
 
 /// The number behind one more digit, if it is at most `most`.
 fn next_value(value: u128, digit: u128, most: u128) -> Option<u128>
@@ -23,18 +44,18 @@ fn next_value(value: u128, digit: u128, most: u128) -> Option<u128>
     Some(value * 10 + digit)
 }
 
-/// Whether digits spell a number up to `most`.
-fn is_small(most: u128, digits: &[u8]) -> bool
-    ensures { result ≡ nat_le (value_behind 10 0 digits.now) most }
+/// The number that digits spell, if it is at most `most`.
+fn small_value(most: u128, digits: &[u8]) -> Option<u128>
+    ensures { result ≡ within most (value_behind 10 0 digits.now) }
 {
     let mut value = 0u128;
     for byte in digits {
         match next_value(value, u128::from(digit_value(*byte)), most) {
             Some(next) => value = next,
-            None => return false,
+            None => return None,
         }
     }
-    true
+    Some(value)
 }
 
 fn are_digits(text: &[u8]) -> bool
@@ -43,54 +64,107 @@ fn are_digits(text: &[u8]) -> bool
     text.iter().all(|b| b.is_ascii_digit())
 }
 
-/// Whether these are digits that spell a number up to `most`.
-fn spells_up_to(most: u128, digits: &[u8]) -> bool
-    ensures { result ≡ spells_up_to most digits.now }
+/// The number that these digits spell, if it is at most `most`.
+fn number_up_to(most: u128, digits: &[u8]) -> Option<u128>
+    ensures { result ≡ number_up_to most digits.now }
 {
-    0 < digits.len() && are_digits(digits) && is_small(most, digits)
-}
-
-/// Whether the text is an integer from -`least` to `most`.
-fn spells_between(least: u128, most: u128, text: &[u8]) -> bool
-    ensures { result ≡ spells_between least most text.now }
-{
-    match text {
-        [] => false,
-        [b'-', digits @ ..] => spells_up_to(least, digits),
-        [_, ..] => spells_up_to(most, text),
+    if 0 < digits.len() && are_digits(digits) {
+        small_value(most, digits)
+    } else {
+        None
     }
 }
 
-/// Whether the text is such an integer behind the text of its type.
-fn is_typed(kind: &[u8], least: u128, most: u128, text: &[u8]) -> bool
-    ensures { result ≡ is_typed kind.now least most text.now }
+/// The greatest integer of a type without a sign.
+fn greatest(integer: IntegerType) -> u128
+    ensures { result ≡ 2 ^ bits_of integer - 1 }
 {
-    text.starts_with(kind) && spells_between(least, most, from_index(text, kind.len()))
+    match integer {
+        IntegerType::Bits8 => 255,
+        IntegerType::Bits16 => 65_535,
+        IntegerType::Bits32 => 4_294_967_295,
+        IntegerType::Bits64 => 18_446_744_073_709_551_615,
+        IntegerType::Bits128 => 340_282_366_920_938_463_463_374_607_431_768_211_455,
+    }
 }
 
-/// Whether the text is the value of a constant: an integer of 8, 16, 32, 64 or 128 bits behind its type.
-pub(crate) fn is_value(text: &[u8]) -> bool
-    ensures { result ≡ is_value text.now }
+/// The absolute value of the least integer of a type with a sign.
+fn least(integer: IntegerType) -> u128
+    ensures { result ≡ 2 ^ (bits_of integer - 1) }
 {
-    is_typed(b"i8 ", 128, 255, text)
-        || is_typed(b"i16 ", 32_768, 65_535, text)
-        || is_typed(b"i32 ", 2_147_483_648, 4_294_967_295, text)
-        || is_typed(
-            b"i64 ",
-            9_223_372_036_854_775_808,
-            18_446_744_073_709_551_615,
-            text,
-        )
-        || is_typed(
-            b"i128 ",
-            170_141_183_460_469_231_731_687_303_715_884_105_728,
-            340_282_366_920_938_463_463_374_607_431_768_211_455,
-            text,
-        )
+    match integer {
+        IntegerType::Bits8 => 128,
+        IntegerType::Bits16 => 32_768,
+        IntegerType::Bits32 => 2_147_483_648,
+        IntegerType::Bits64 => 9_223_372_036_854_775_808,
+        IntegerType::Bits128 => 170_141_183_460_469_231_731_687_303_715_884_105_728,
+    }
 }
 
-/// Whether the text is the alignment of a constant: 1, 2, 4, 8 or 16 bytes.
-pub(crate) fn is_alignment(text: &[u8]) -> bool
+/// The negative of a number in two's complement, as an integer of a type without a sign.
+fn negated(integer: IntegerType, n: u128) -> u128
+    ensures { result ≡ negated integer n }
+{
+    if n == 0 {
+        0
+    } else {
+        greatest(integer).saturating_sub(n - 1)
+    }
+}
+
+/// The integer of a type that a text spells, signed or unsigned, as one without a sign.
+fn integer_in(integer: IntegerType, text: &[u8]) -> Option<u128>
+    ensures { result ≡ integer_in integer text.now }
+{
+    match text {
+        [] => None,
+        [b'-', digits @ ..] => match number_up_to(least(integer), digits) {
+            Some(n) => Some(negated(integer, n)),
+            None => None,
+        },
+        [_, ..] => number_up_to(greatest(integer), text),
+    }
+}
+
+/// A value of a type, if there is one.
+fn of_type(integer: IntegerType, value: Option<u128>) -> Option<TypedValue>
+    ensures { result ≡ of_type integer value }
+{
+    match value {
+        Some(value) => Some(TypedValue { integer, value }),
+        None => None,
+    }
+}
+
+/// The value behind the name of its type, or what it is otherwise.
+fn typed_or(
+    name: &[u8],
+    integer: IntegerType,
+    text: &[u8],
+    other: Option<TypedValue>,
+) -> Option<TypedValue>
+    ensures { result ≡ typed_or name.now integer text.now other }
+{
+    if text.starts_with(name) {
+        of_type(integer, integer_in(integer, from_index(text, name.len())))
+    } else {
+        other
+    }
+}
+
+/// The value of a constant: an integer of 8, 16, 32, 64 or 128 bits behind its type.
+pub(crate) fn typed_value(text: &[u8]) -> Option<TypedValue>
+    ensures { result ≡ typed_value text.now }
+{
+    let bits128 = typed_or(b"i128 ", IntegerType::Bits128, text, None);
+    let bits64 = typed_or(b"i64 ", IntegerType::Bits64, text, bits128);
+    let bits32 = typed_or(b"i32 ", IntegerType::Bits32, text, bits64);
+    let bits16 = typed_or(b"i16 ", IntegerType::Bits16, text, bits32);
+    typed_or(b"i8 ", IntegerType::Bits8, text, bits16)
+}
+
+/// Whether the text is 1, 2, 4, 8 or 16.
+fn is_alignment(text: &[u8]) -> bool
     ensures { result ≡ is_alignment text.now }
 {
     text == b"1".as_slice()
@@ -98,6 +172,17 @@ pub(crate) fn is_alignment(text: &[u8]) -> bool
         || text == b"4".as_slice()
         || text == b"8".as_slice()
         || text == b"16".as_slice()
+}
+
+/// The alignment of a constant in bytes.
+pub(crate) fn alignment_of(text: &[u8]) -> Option<u32>
+    ensures { result ≡ alignment_of text.now }
+{
+    if is_alignment(text) {
+        spelled(10, text)
+    } else {
+        None
+    }
 }
 
 /// The number of a constant, from 0 to 2^30 - 1.

@@ -1,19 +1,19 @@
 //! The entries of `constants`, the function's constant pool, in block style.
 
-ghost use Rattle.std.specs.Prelude.{◌≡◌, ◌≤◌, ◌∷◌, ◌&&◌, [], drop, take, length, slice_get, codes, IsTrue, None, IfOk, OnOk};
+ghost use Rattle.std.specs.Prelude.{◌≡◌, ◌≤◌, ◌∷◌, ◌&&◌, [], drop, take, length, slice_get, IsTrue, None, IfOk, OnOk};
 ghost use Rattle.std.specs.List.{list_all, position};
+ghost use Rattle.mir_pool.specs.Pool.{constant_ids};
 ghost use Rattle.read_declarations.specs.Constants.{
   has_this_key,
   value_at_line,
   value_in,
-  is_value,
-  is_alignment,
   is_once,
   goes_on,
   has_form,
   some_key,
-  is_entry,
-  entry_number,
+  is_formed,
+  constant_with,
+  entry_constant,
   if_new,
   AreNumbers,
   lines_before,
@@ -33,21 +33,18 @@ ghost use Rattle.read_declarations.specs.Constants.{
 use crate::constant_line::{
     behind_spaces, continues, from_index, has_key, is_blank_line, key_of, opens, value_of,
 };
-use crate::constant_value::{id_of, is_alignment, is_value};
+use crate::constant_value::{TypedValue, alignment_of, id_of, typed_value};
 use crate::entry::bad_line;
-use base_list::List;
+use mir_pool::constant::{Pool, PoolConstant};
 use read_lexer::line::Line;
 use read_refusal::first::{Refusal, earlier};
 use std::alloc::{AllocError, Global};
 use std::collections::BTreeSet;
 
-/// The numbers of constants.
-pub type ConstantIds = List<u32>;
-
-/// The numbers of a function's constants, in declared order, and the first refusal.
+/// The constants of a function's pool, in declared order, and the first refusal.
 #[derive(Drop)]
 pub struct PoolRead {
-    pub ids: ConstantIds,
+    pub constants: Pool,
     pub refused: Option<Refusal>,
 }
 
@@ -116,13 +113,6 @@ fn are_formed(lines: &[Line]) -> bool
     begins_with_key(lines) && go_on(from_line(lines, 1))
 }
 
-/// Whether the lines have the value and the alignment of a constant.
-fn has_values(lines: &[Line]) -> bool
-    ensures { result ≡ (is_value (value_in (codes "value") lines.now) && is_alignment (value_in (codes "alignment") lines.now)) }
-{
-    is_value(value_in(b"value", lines)) && is_alignment(value_in(b"alignment", lines))
-}
-
 /// Whether each key of the lines stands once. The error is want of memory.
 fn are_once(alloc: Global, lines: &[Line]) -> Result<bool, AllocError>
     requires { IsTrue (list_all has_form lines.now) }
@@ -141,25 +131,43 @@ fn are_once(alloc: Global, lines: &[Line]) -> Result<bool, AllocError>
     Ok(true)
 }
 
-/// Whether the lines are an entry.
-fn is_entry(alloc: Global, lines: &[Line]) -> Result<bool, AllocError>
-    ensures { IfOk result (λ entry. entry ≡ is_entry lines.now) }
+/// Whether an entry may have these lines: the first has a key, others go on, and each key stands once.
+fn is_formed(alloc: Global, lines: &[Line]) -> Result<bool, AllocError>
+    ensures { IfOk result (λ formed. formed ≡ is_formed lines.now) }
 {
     if !are_formed(lines) {
-        return Ok(false);
-    }
-    if !has_values(lines) {
         return Ok(false);
     }
     are_once(alloc, lines)
 }
 
-/// The number of an entry, if the lines are one.
-fn entry_number(alloc: Global, lines: &[Line]) -> Result<Option<u32>, AllocError>
-    ensures { IfOk result (λ number. number ≡ entry_number lines.now) }
+/// The constant of a number, a value and an alignment.
+fn constant_with(
+    id: Option<u32>,
+    typed: Option<TypedValue>,
+    alignment: Option<u32>,
+) -> Option<PoolConstant>
+    ensures { result ≡ constant_with id typed alignment }
 {
-    if is_entry(alloc, lines)? {
-        Ok(id_of(value_in(b"id", lines)))
+    let id = id?;
+    let typed = typed?;
+    let alignment = alignment?;
+    Some(PoolConstant {
+        id,
+        integer: typed.integer,
+        value: typed.value,
+        alignment,
+    })
+}
+
+/// The constant of an entry, if the lines are one.
+fn entry_constant(alloc: Global, lines: &[Line]) -> Result<Option<PoolConstant>, AllocError>
+    ensures { IfOk result (λ constant. constant ≡ entry_constant lines.now) }
+{
+    if is_formed(alloc, lines)? {
+        let id = id_of(value_in(b"id", lines));
+        let typed = typed_value(value_in(b"value", lines));
+        Ok(constant_with(id, typed, alignment_of(value_in(b"alignment", lines))))
     } else {
         Ok(None)
     }
@@ -211,22 +219,22 @@ fn refuse(read: &mut PoolRead, line: u32)
     read.refused = earlier(read.refused, Some(bad_line(line)));
 }
 
-/// Adds the number of an entry if it is new, or the entry's refusal. The set has the numbers so far.
+/// Adds the constant of an entry if its number is new, or the entry's refusal. The set has the numbers so far.
 fn add_constant(
     read: &mut PoolRead,
     known: &mut BTreeSet<u32>,
     line: u32,
-    id: Option<u32>,
+    constant: Option<PoolConstant>,
 ) -> Result<(), AllocError>
-    requires { AreNumbers known.old read.old.ids }
-    ensures read { OnOk result (read.new ≡ with_constant read.old line (if_new read.old.ids id)) }
-    ensures known { OnOk result (AreNumbers known.new read.new.ids) }
+    requires { AreNumbers known.old (constant_ids read.old.constants) }
+    ensures read { OnOk result (read.new ≡ with_constant read.old line (if_new (constant_ids read.old.constants) constant)) }
+    ensures known { OnOk result (AreNumbers known.new (constant_ids read.new.constants)) }
 {
-    match id {
-        Some(id) => {
-            let is_new = known.insert(id)?;
+    match constant {
+        Some(constant) => {
+            let is_new = known.insert(constant.id)?;
             if is_new {
-                read.ids.push(id)
+                read.constants.push(constant)
             } else {
                 refuse(read, line);
                 Ok(())
@@ -247,13 +255,13 @@ fn take_line(
     line: &Line,
     left: &[Line],
 ) -> Result<(), AllocError>
-    requires { AreNumbers known.old read.old.ids }
+    requires { AreNumbers known.old (constant_ids read.old.constants) }
     ensures read { OnOk result (read.new ≡ behind_line read.old line.now left.now) }
-    ensures known { OnOk result (AreNumbers known.new read.new.ids) }
+    ensures known { OnOk result (AreNumbers known.new (constant_ids read.new.constants)) }
 {
     if opens(line.text.as_slice()) {
-        let id = entry_number(alloc, first_entry(left))?;
-        add_constant(read, known, line.number, id)
+        let constant = entry_constant(alloc, first_entry(left))?;
+        add_constant(read, known, line.number, constant)
     } else {
         Ok(())
     }
@@ -299,12 +307,12 @@ fn stray(lines: &[Line]) -> Option<Refusal>
     first_stray(before_line(lines, lines_before(lines)))
 }
 
-/// The numbers of the constants in lines behind the key, and the first refusal.
+/// The constants in lines behind the key, and the first refusal.
 fn entries(alloc: Global, lines: &[Line]) -> Result<PoolRead, AllocError>
-    ensures { IfOk result (λ read. read ≡ pool_behind (record { ids = []; refused = stray lines.now }) lines.now) }
+    ensures { IfOk result (λ read. read ≡ pool_behind (record { constants = []; refused = stray lines.now }) lines.now) }
 {
     let mut read = PoolRead {
-        ids: ConstantIds::new(alloc),
+        constants: Pool::new(alloc),
         refused: stray(lines),
     };
     let mut known = BTreeSet::new(alloc);
@@ -324,15 +332,15 @@ fn is_no_pool(text: &[u8]) -> bool
 
 /// No constant.
 fn none(alloc: Global) -> PoolRead
-    ensures { result ≡ record { ids = []; refused = None } }
+    ensures { result ≡ record { constants = []; refused = None } }
 {
     PoolRead {
-        ids: ConstantIds::new(alloc),
+        constants: Pool::new(alloc),
         refused: None,
     }
 }
 
-/// The numbers of the constants in the lines of `constants`, and the first refusal.
+/// The constants in the lines of `constants`, and the first refusal.
 fn constants_in(alloc: Global, lines: &[Line]) -> Result<PoolRead, AllocError>
     ensures { IfOk result (λ read. read ≡ constants_in lines.now) }
 {
@@ -353,7 +361,7 @@ fn entries_behind(alloc: Global, key: &Line, lines: &[Line]) -> Result<PoolRead,
     }
 }
 
-/// The numbers of a function's constants, and the first refusal: the language that isn't linked has none.
+/// The constants of a function's pool, and the first refusal: the language that isn't linked has none.
 pub fn pool(alloc: Global, linked: bool, lines: &[Line]) -> Result<PoolRead, AllocError>
     ensures { IfOk result (λ read. read ≡ pool_of linked lines.now) }
 {

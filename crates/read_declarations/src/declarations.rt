@@ -4,17 +4,20 @@ ghost use Rattle.std.specs.Prelude.{◌≡◌, IfOk};
 ghost use Rattle.read_declarations.specs.Declarations.{Gives, fixed_refusal, checked, declarations_of};
 ghost use Rattle.read_declarations.specs.declared.declarations.DeclarationError.TheVariants.{Memory};
 
-use crate::constants::{ConstantIds, pool};
+use crate::constants::pool;
+use crate::exposure::exposure;
 use crate::list::list;
 use crate::name::name;
 use crate::stack::{StackEntries, stack};
 use crate::substitutions::substitutions;
+use mir_exposure::exposure::Exposure;
+use mir_pool::constant::Pool;
 use mir_substitution::substitutions::Substitutions;
 use read_documents::parts::FunctionDocument;
 use read_lexer::line::Line;
+use read_metadata::rv64_instr_crate::name::Name;
 use read_refusal::first::{Refusal, earlier};
 use read_refusal::kind::RefusalKind;
-use rv64_instr::name::Name;
 use std::alloc::{AllocError, Global};
 use thiserror::Error;
 
@@ -27,8 +30,10 @@ pub struct Declarations {
     pub stack: StackEntries,
     /// The substitutions of its debug instruction numbers, in order.
     pub substitutions: Substitutions,
-    /// The numbers of the constants in its pool (LLVM: `MachineConstantPool`).
-    pub pool: ConstantIds,
+    /// The constants of its pool (LLVM: `MachineConstantPool`), in declared order. No two have the same number.
+    pub pool: Pool,
+    /// What it exposes to other code.
+    pub exposure: Exposure,
 }
 
 /// Why declarations couldn't be read.
@@ -93,6 +98,7 @@ pub fn read_declarations(
     let fixed = fixed_refusal(alloc, document.fixed.as_slice())?;
     let substitutions = substitutions(alloc, document.substitutions.as_slice())?;
     let pool = pool(alloc, document.linked, document.constants.as_slice())?;
+    let exposure = exposure(alloc, document.linked, document.twice.as_slice())?;
     let refused = earlier(
         earlier(
             earlier(name.refused, stack.refused),
@@ -106,7 +112,8 @@ pub fn read_declarations(
             name: name.name,
             stack: stack.entries,
             substitutions: substitutions.entries,
-            pool: pool.ids,
+            pool: pool.constants,
+            exposure,
         },
     )
 }

@@ -1,5 +1,5 @@
 //! The declarations in a machine function's MIR document: its name, stack entries, debug value substitutions and
-//! constants.
+//! constants, and what it exposes.
 //!
 //! Each has its own key in the document, beside `body`. The name is one line. Each list is a stream of tokens over
 //! the lines of its key, `- { id: 0, size: 8 }` and so on; it is parsed up to the first token that can't come next,
@@ -7,11 +7,14 @@
 //! of all.
 #![tactic(auto)]
 
+pub use mir_substitution as mir_substitution_crate;
+
 mod constant_line;
 mod constant_value;
 pub mod constants;
 pub mod declarations;
 mod entry;
+pub mod exposure;
 mod field;
 mod list;
 mod name;

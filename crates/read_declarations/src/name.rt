@@ -20,11 +20,11 @@ use read_lexer::fault::LexError;
 use read_lexer::lexer::tokens;
 use read_lexer::line::Line;
 use read_lexer::parts::Token;
+use read_metadata::rv64_instr_crate::name::Name;
 use read_metadata::text::{inside_quotes, unescaped};
 use read_metadata::token::{is_text, is_word, text_of};
 use read_refusal::first::Refusal;
 use read_refusal::kind::RefusalKind;
-use rv64_instr::name::Name;
 use std::alloc::{AllocError, Global};
 
 /// A function's name, or why its line is refused.
@@ -145,7 +145,7 @@ fn refused_by(line: u32, spelling: Spelling) -> Option<Refusal>
 }
 
 /// The tokens after a key and its colon.
-fn behind_key(tokens: &[Token]) -> &[Token]
+pub(crate) fn behind_key(tokens: &[Token]) -> &[Token]
     ensures { result.now ≡ drop 2 tokens.now }
 {
     if tokens.len() < 2 { &[] } else { &tokens[2..] }
@@ -166,7 +166,7 @@ fn name_of_line(alloc: Global, line: &Line) -> Result<NameRead, AllocError>
     ensures { IfOk result (λ read. read ≡ name_of_line line.now) }
 {
     let text = line.text.as_slice();
-    match tokens(alloc, text) {
+    match tokens(alloc, false, text) {
         Ok(tokens) => {
             let said = behind_key(tokens.as_slice());
             let spelling = spelling_of(text, said);

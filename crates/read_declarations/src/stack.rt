@@ -1,7 +1,7 @@
 //! The entries of `stack`: the objects in a function's stack frame, spill slots included.
 
 ghost use Rattle.std.specs.Prelude.{◌≡◌, map, IfOk, OnOk};
-ghost use Rattle.mir_func.specs.Objects.{local_count};
+ghost use Rattle.mir_substitution.specs.mir_func.Objects.{local_count};
 ghost use Rattle.read_declarations.specs.Stack.{
   is_alignment,
   stack_entry_of,
@@ -23,8 +23,8 @@ use crate::field::{given, is_variable_sized, needed, negated, value_at};
 use crate::list::list;
 use base_ids::function_ids::SlotId;
 use base_list::List;
-use mir_func::limits::MAX_SLOTS;
-use mir_func::object::counted;
+use mir_substitution::mir_func_crate::limits::MAX_SLOTS;
+use mir_substitution::mir_func_crate::object::counted;
 use read_lexer::line::Line;
 use read_refusal::first::{Refusal, earlier};
 use read_refusal::kind::RefusalKind;

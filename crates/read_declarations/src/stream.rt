@@ -1,6 +1,6 @@
 //! The tokens of a key's lines, as one stream.
 
-ghost use Rattle.std.specs.Prelude.{◌≡◌, ◌++◌, map, take, IfOk, OnOk};
+ghost use Rattle.std.specs.Prelude.{false, ◌≡◌, ◌++◌, map, take, IfOk, OnOk};
 ghost use Rattle.read_lexer.specs.Line.{tokens_of};
 ghost use Rattle.read_declarations.specs.Stream.{
   tokens_or_none,
@@ -52,9 +52,9 @@ pub struct TokenStream {
 
 /// The tokens of a text, or none if it has a fault.
 fn tokens_or_none(alloc: Global, text: &[u8]) -> Result<Tokens, AllocError>
-    ensures { IfOk result (λ ts. ts ≡ tokens_or_none (tokens_of text.now)) }
+    ensures { IfOk result (λ ts. ts ≡ tokens_or_none (tokens_of false text.now)) }
 {
-    match tokens(alloc, text) {
+    match tokens(alloc, false, text) {
         Ok(tokens) => Ok(tokens),
         Err(LexError::Memory) => Err(AllocError),
         Err(LexError::BadByte(_)) | Err(LexError::UnclosedString(_)) => Ok(List::new(alloc)),
@@ -70,9 +70,9 @@ fn front(text: &[u8], len: usize) -> &[u8]
 
 /// The tokens of a text up to its first fault, if it has one.
 fn tokens_up_to(alloc: Global, text: &[u8]) -> Result<Tokens, AllocError>
-    ensures { IfOk result (λ ts. ts ≡ tokens_up_to text.now (tokens_of text.now)) }
+    ensures { IfOk result (λ ts. ts ≡ tokens_up_to text.now (tokens_of false text.now)) }
 {
-    match tokens(alloc, text) {
+    match tokens(alloc, false, text) {
         Ok(tokens) => Ok(tokens),
         Err(LexError::Memory) => Err(AllocError),
         Err(LexError::BadByte(at)) | Err(LexError::UnclosedString(at)) => {
@@ -83,9 +83,9 @@ fn tokens_up_to(alloc: Global, text: &[u8]) -> Result<Tokens, AllocError>
 
 /// The tokens of a line's bytes up to the first fault, and that fault.
 fn line_tokens(alloc: Global, text: &[u8]) -> Result<LineTokens, AllocError>
-    ensures { IfOk result (λ read. read ≡ line_tokens_of text.now (tokens_of text.now)) }
+    ensures { IfOk result (λ read. read ≡ line_tokens_of text.now (tokens_of false text.now)) }
 {
-    match tokens(alloc, text) {
+    match tokens(alloc, false, text) {
         Ok(tokens) => Ok(LineTokens {
             tokens,
             fault: None,

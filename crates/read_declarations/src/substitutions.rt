@@ -7,7 +7,7 @@ use crate::entry::{MappingField, bad_line};
 use crate::field::{given, needed};
 use crate::list::list;
 use base_ids::function_ids::{DebugNumber, OperandIndex};
-use mir_func::debug_substitution::{DebugSubstitution, OperandPair};
+use mir_substitution::mir_func_crate::debug_substitution::{DebugSubstitution, OperandPair};
 use mir_substitution::substitutions::Substitutions;
 use read_lexer::line::Line;
 use read_refusal::first::{Refusal, earlier};

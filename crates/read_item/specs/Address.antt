@@ -1,5 +1,5 @@
 -- The two instructions that a line of `PseudoMovAddr` is: `LUI` of the upper half of an address, and `ADDI` of its lower half.
-use Rattle.std.specs.Prelude.{Bool, ◌&&◌, ◌||◌, if◌then◌else◌, is_none, List, [], ◌∷◌, Option, Some, None, Result, Ok, Err}
+use Rattle.std.specs.Prelude.{Bool, false, ◌&&◌, ◌||◌, if◌then◌else◌, is_none, List, [], ◌∷◌, Option, Some, None, Result, Ok, Err}
 use Rattle.std.specs.List.{list_any}
 use Rattle.std.specs.Ordering.{int_eq}
 use Rattle.read_refusal.specs.declared.kind.RefusalKind.{RefusalKind}
@@ -28,7 +28,7 @@ is_same_address y z = is_same_symbol y.symbol z.symbol && int_eq y.addend z.adde
 
 -- the instruction of these operands, if they have the form of the opcode
 abbrev pub formed : Op → List Operand → Option Instruction
-formed op operands = if has_form op operands then Some (record { op = op; operands = operands }) else None
+formed op operands = if has_form op operands then Some (record { op = op; operands = operands; volatile = false }) else None
 
 -- both, if both exist
 abbrev pub both : {A : Type 0} → Option A → Option A → Option (A × A)

@@ -1,6 +1,6 @@
 -- The instruction that a line of code is, or why the line is refused.
 use Rattle.std.specs.Prelude.{ℕ, ℤ, ◌+◌, Bool, true, false, not, ◌&&◌, ◌||◌, nat_eq, nat_lt, if◌then◌else◌, length, List, [], ◌∷◌, ◌++◌, pos, Option, Some}
-use Rattle.std.specs.Prelude.{None, is_none, unwrap_or, Result, Ok, Err}
+use Rattle.std.specs.Prelude.{None, is_none, drop, unwrap_or, Result, Ok, Err}
 use Rattle.std.specs.List.{list_any, zip}
 use Rattle.read_refusal.specs.declared.kind.RefusalKind.{RefusalKind}
 use Rattle.read_refusal.specs.declared.kind.RefusalKind.TheVariants as kinds
@@ -11,13 +11,13 @@ use Rattle.rv64_instr.specs.declared.operand.Operand.TheVariants as operand
 use Rattle.rv64_instr.specs.declared.symbol.Half.{Half}
 use Rattle.rv64_instr.specs.declared.symbol.Symbol.{Symbol}
 use Rattle.rv64_instr.specs.Form.{has_form, moves_slot}
-pub use Rattle.rv64_instr.specs.Form.{has_register_callee}
+pub use Rattle.rv64_instr.specs.Form.{has_implicit_callee}
 use Rattle.rv64_instr.specs.Arithmetic.{load_width, store_width}
-use Rattle.rv64_instr.specs.Instruction.{Instruction}
-use Rattle.read_token.specs.declared.lexeme.Flag.{Flag}
-use Rattle.read_token.specs.declared.lexeme.Flag.TheVariants.{Plain, Implicit, ImplicitDef}
-use Rattle.read_token.specs.declared.lexeme.RegisterName.{RegisterName}
-use Rattle.read_token.specs.declared.lexeme.RegisterName.TheVariants.{Physical, Absent, Other, Virtual}
+use Rattle.rv64_instr.specs.Instruction.{Instruction, is_load}
+use Rattle.read_line.specs.read_token.declared.lexeme.Flag.{Flag}
+use Rattle.read_line.specs.read_token.declared.lexeme.Flag.TheVariants.{Plain, Implicit, ImplicitDef}
+use Rattle.read_line.specs.read_token.declared.lexeme.RegisterName.{RegisterName}
+use Rattle.read_line.specs.read_token.declared.lexeme.RegisterName.TheVariants.{Physical, Absent, Other, Virtual}
 use Rattle.read_line.specs.declared.form.RegisterForm.{RegisterForm}
 use Rattle.read_line.specs.declared.form.OperandForm.{OperandForm}
 use Rattle.read_line.specs.declared.form.OperandForm.TheVariants as form
@@ -157,7 +157,8 @@ unfoldable pub placed : List OperandKind → List OperandForm → Option (List O
 placed ps [] = Some []
 placed ps (o ∷ os) = before (operand_at (front ps) o) (placed (behind ps) os)
 
--- the register of a call by a register or in tail position, which is its first implicit use. The stack pointer and virtual registers have checks of their own
+-- the register of a call in tail position or that doesn't return, which is its first implicit use. The stack pointer and virtual registers have checks of
+-- their own
 abbrev pub called : Option ℕ → Option Operand
 called None = None
 called (Some r) = Some (operand.ImplicitUse (if nat_eq r 2 then STAND_IN else r))
@@ -182,7 +183,7 @@ placed_behind_callee ps (o ∷ os) = before (callee_operand o) (placed (behind p
 
 -- the operands after the opcode, each at its position, if each exists
 abbrev pub placed_by : Op → List OperandKind → List OperandForm → Option (List Operand)
-placed_by op ps os = if has_register_callee op then placed_behind_callee ps os else placed ps os
+placed_by op ps os = if has_implicit_callee op then placed_behind_callee ps os else placed ps os
 
 -- whether a load or store of this width with this offset operand accesses a whole spill slot: eight bytes at offset 0
 abbrev pub is_whole_slot : (width : ℕ) → OperandForm → Bool
@@ -236,11 +237,11 @@ abbrev pub begins_with_virtual : List OperandForm → Bool
 begins_with_virtual (form.Register r ∷ rest) = is_virtual r.name
 begins_with_virtual _ = false
 
--- whether a register that is refused is virtual: a definition or an operand, or the register of a call by a register, which is an implicit use
+-- whether a register that is refused is virtual: a definition or an operand, or a callee's register that is an implicit use
 abbrev pub names_refused : Op → ItemForm → Bool
 names_refused op line =
     (list_any is_refused_virtual line.definitions || list_any is_refused_operand line.operands)
-    || (has_register_callee op && begins_with_virtual line.operands)
+    || (has_implicit_callee op && begins_with_virtual line.operands)
 
 -- whether a register is the physical one of this number, without a flag
 abbrev pub is_named : Flag → RegisterName → ℕ → Bool
@@ -280,19 +281,31 @@ is_misplaced at = (is_stack at.1 && not (is_address at.0)) || is_fixed at.1
 abbrev pub is_long : ItemForm → Bool
 is_long line = nat_lt MAX_OPERANDS (length line.definitions + length line.operands)
 
+-- whether the first of two operands is a fixed stack object, and the second a half of an address
+abbrev pub is_half_of_fixed : OperandForm × OperandForm → Bool
+is_half_of_fixed (form.Fixed n, form.Part half a) = true
+is_half_of_fixed _ = false
+
+-- whether a half of an address stands right behind a fixed stack object, where code has a number
+abbrev pub has_half_of_fixed : List OperandForm → Bool
+has_half_of_fixed operands = list_any is_half_of_fixed (zip operands (drop 1 operands))
+
 -- the checks of a line of code
 abbrev pub code_rules : Op → ItemForm → List Rule
 code_rules op line =
-    record { broken = line.exceeds || not (fits op (operands_of op line)); refusal = kinds.BadOperands } ∷
+    record {
+      broken = not (fits op (operands_of op line)) || (line.exceeds || has_half_of_fixed line.operands);
+      refusal = kinds.BadOperands;
+    } ∷
     record { broken = names_refused op line; refusal = kinds.VirtualRegister } ∷
     record { broken = list_any is_pointer line.definitions || list_any is_pointer_operand line.operands; refusal = kinds.StackPointerUse } ∷
     record { broken = list_any is_misplaced (zip (places_of op line) line.operands); refusal = kinds.StackObject } ∷
     record { broken = is_long line; refusal = kinds.TooMany } ∷ []
 
--- the instruction of an opcode and these operands, or of no operands if there are none
-abbrev pub instruction : Op → Option (List Operand) → Instruction
-instruction op None = record { op = op; operands = [] }
-instruction op (Some operands) = record { op = op; operands = operands }
+-- the instruction of an opcode and these operands, or of no operands if there are none. If the line's access is volatile, a load is
+abbrev pub instruction : Op → (volatile : Bool) → Option (List Operand) → Instruction
+instruction op volatile None = record { op = op; operands = []; volatile = volatile && is_load op }
+instruction op volatile (Some operands) = record { op = op; operands = operands; volatile = volatile && is_load op }
 
 -- a result, unless the line is refused
 abbrev pub unless_refused : {A : Type 0} → Option RefusalKind → A → Result A RefusalKind
@@ -301,4 +314,4 @@ unless_refused (Some kind) a = Err kind
 
 -- the instruction that a line of code is, or the refusal of the first check that fails
 unfoldable pub code_of : Op → ItemForm → Result Instruction RefusalKind
-code_of op line = unless_refused (refusal_by (code_rules op line)) (instruction op (operands_of op line))
+code_of op line = unless_refused (refusal_by (code_rules op line)) (instruction op line.volatile (operands_of op line))

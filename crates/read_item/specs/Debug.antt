@@ -6,21 +6,21 @@ use Rattle.read_refusal.specs.declared.kind.RefusalKind.{RefusalKind}
 use Rattle.read_refusal.specs.declared.kind.RefusalKind.TheVariants as kinds
 use Rattle.rv64_instr.specs.declared.place.Place.{Place}
 use Rattle.rv64_instr.specs.declared.place.Place.TheVariants as content
-use Rattle.mir_func.specs.declared.item.ItemKind.{ItemKind}
-use Rattle.mir_func.specs.declared.item.ItemKind.TheVariants.{Mark, Phi}
-use Rattle.mir_func.specs.declared.location.Loc.{Loc}
-use Rattle.mir_func.specs.declared.location.Loc.TheVariants as loc
-use Rattle.mir_func.specs.declared.variable.MarkValue.{MarkValue}
-use Rattle.mir_func.specs.declared.variable.MarkValue.TheVariants.{Nothing, Constant, At, Pair}
-use Rattle.mir_func.specs.Parts.{Bytes}
+use Rattle.read_line.specs.mir_func.declared.item.ItemKind.{ItemKind}
+use Rattle.read_line.specs.mir_func.declared.item.ItemKind.TheVariants.{Mark, Phi}
+use Rattle.read_line.specs.mir_func.declared.location.Loc.{Loc}
+use Rattle.read_line.specs.mir_func.declared.location.Loc.TheVariants as loc
+use Rattle.read_line.specs.mir_func.declared.variable.MarkValue.{MarkValue}
+use Rattle.read_line.specs.mir_func.declared.variable.MarkValue.TheVariants.{Nothing, Constant, At, Pair}
+use Rattle.read_line.specs.mir_func.Parts.{Bytes}
 use Rattle.base_ids.specs.Limits.{MAX_NUMBER}
-use Rattle.read_metadata.specs.declared.node.LocationNode.{LocationNode}
-use Rattle.read_metadata.specs.Maps.{Maps}
-use Rattle.read_metadata.specs.Metadata.{location_at}
-use Rattle.read_token.specs.declared.lexeme.Flag.{Flag}
-use Rattle.read_token.specs.declared.lexeme.Flag.TheVariants.{Plain, Implicit, ImplicitDef}
-use Rattle.read_token.specs.declared.lexeme.RegisterName.{RegisterName}
-use Rattle.read_token.specs.declared.lexeme.RegisterName.TheVariants.{Physical, Absent, Other, Virtual}
+use Rattle.read_line.specs.read_metadata.declared.node.LocationNode.{LocationNode}
+use Rattle.read_line.specs.read_metadata.Maps.{Maps}
+use Rattle.read_line.specs.read_metadata.Metadata.{location_at}
+use Rattle.read_line.specs.read_token.declared.lexeme.Flag.{Flag}
+use Rattle.read_line.specs.read_token.declared.lexeme.Flag.TheVariants.{Plain, Implicit, ImplicitDef}
+use Rattle.read_line.specs.read_token.declared.lexeme.RegisterName.{RegisterName}
+use Rattle.read_line.specs.read_token.declared.lexeme.RegisterName.TheVariants.{Physical, Absent, Other, Virtual}
 use Rattle.read_line.specs.declared.form.Expression.{Expression}
 use Rattle.read_line.specs.declared.form.Expression.TheVariants as expression
 use Rattle.read_line.specs.declared.form.OperandForm.{OperandForm}

@@ -5,9 +5,9 @@ use Rattle.std.specs.List.{filter_map}
 use Rattle.read_refusal.specs.declared.kind.RefusalKind.{RefusalKind}
 use Rattle.read_refusal.specs.declared.kind.RefusalKind.TheVariants as kinds
 use Rattle.rv64_instr.specs.Instruction.{Instruction}
-use Rattle.mir_func.specs.declared.item.ItemKind.{ItemKind}
-use Rattle.mir_func.specs.declared.item.ItemKind.TheVariants as items
-use Rattle.read_metadata.specs.Maps.{Maps}
+use Rattle.read_line.specs.mir_func.declared.item.ItemKind.{ItemKind}
+use Rattle.read_line.specs.mir_func.declared.item.ItemKind.TheVariants as items
+use Rattle.read_line.specs.read_metadata.Maps.{Maps}
 use Rattle.read_line.specs.declared.form.OperandForm.{OperandForm}
 use Rattle.read_line.specs.declared.form.OperandForm.TheVariants as form
 use Rattle.read_line.specs.declared.form.ItemForm.{ItemForm}

@@ -1,6 +1,6 @@
 //! The instruction that a line of code is.
 
-ghost use Rattle.std.specs.Prelude.{◌≡◌, ◌&&◌, ◌||◌, IfOk, Ok, Err};
+ghost use Rattle.std.specs.Prelude.{◌≡◌, ◌&&◌, ◌||◌, drop, IfOk, Ok, Err};
 ghost use Rattle.std.specs.List.{list_any, zip};
 ghost use Rattle.read_refusal.specs.declared.kind.RefusalKind.{RefusalKind};
 ghost use Rattle.read_item.specs.declared.judged.JudgeError.TheVariants.{Refused};
@@ -10,12 +10,14 @@ ghost use Rattle.read_item.specs.Code.{
   is_refused_operand,
   is_virtual,
   begins_with_virtual,
-  has_register_callee,
+  has_implicit_callee,
   is_pointer,
   is_pointer_operand,
   is_misplaced,
   is_stack,
   is_fixed,
+  is_half_of_fixed,
+  has_half_of_fixed,
   is_long,
   places_of,
   code_of,
@@ -25,8 +27,8 @@ use crate::judged::JudgeError;
 use crate::operand::{operands_of, places_of, virtual_register};
 use crate::place::OperandKind;
 use read_line::form::{ItemForm, OperandForm, RegisterForm};
+use read_line::read_token_crate::lexeme::{Flag, RegisterName};
 use read_refusal::kind::RefusalKind;
-use read_token::lexeme::{Flag, RegisterName};
 use rv64_instr::instr::Instr;
 use rv64_instr::op::Op;
 use std::alloc::Global;
@@ -117,11 +119,11 @@ fn begins_with_virtual(forms: &[OperandForm]) -> bool
     }
 }
 
-/// Whether the register of a call by a register is virtual.
+/// Whether the register of a callee that is an implicit use is virtual.
 fn names_virtual_callee(op: Op, line: &ItemForm) -> bool
-    ensures { result ≡ (has_register_callee op && begins_with_virtual line.now.operands) }
+    ensures { result ≡ (has_implicit_callee op && begins_with_virtual line.now.operands) }
 {
-    op.has_register_callee() && begins_with_virtual(line.operands.as_slice())
+    op.has_implicit_callee() && begins_with_virtual(line.operands.as_slice())
 }
 
 fn sets_pointer(registers: &[RegisterForm]) -> bool
@@ -169,6 +171,36 @@ fn misplaces_stack(op: Op, line: &ItemForm) -> bool
         .any(|(place, form)| is_misplaced(*place, form))
 }
 
+/// Whether the first of two operands is a fixed stack object, and the second a half of an address.
+fn is_half_of_fixed(first: &OperandForm, second: &OperandForm) -> bool
+    ensures { result ≡ is_half_of_fixed (first.now, second.now) }
+{
+    match (first, second) {
+        (OperandForm::Fixed(_), OperandForm::Part(_, _)) => true,
+        _ => false,
+    }
+}
+
+/// The operands behind the first.
+fn behind_first(forms: &[OperandForm]) -> &[OperandForm]
+    ensures { result.now ≡ drop 1 forms.now }
+{
+    match forms {
+        [_, rest @ ..] => rest,
+        [] => forms,
+    }
+}
+
+/// Whether a half of an address stands right behind a fixed stack object, where code has a number.
+fn has_half_of_fixed(forms: &[OperandForm]) -> bool
+    ensures { result ≡ has_half_of_fixed forms.now }
+{
+    forms
+        .iter()
+        .zip(behind_first(forms))
+        .any(|(first, second)| is_half_of_fixed(first, second))
+}
+
 /// Whether a line has too many operands.
 pub fn is_long(line: &ItemForm) -> bool
     ensures { result ≡ is_long line.now }
@@ -192,7 +224,7 @@ pub fn code_of(alloc: Global, op: Op, line: &ItemForm) -> Result<Instr, JudgeErr
     let Some(instr) = Instr::new(op, operands) else {
         return Err(JudgeError::Refused(RefusalKind::BadOperands));
     };
-    if line.exceeds {
+    if line.exceeds || has_half_of_fixed(line.operands.as_slice()) {
         return Err(JudgeError::Refused(RefusalKind::BadOperands));
     }
     if names_refused_register(line) || names_virtual_callee(op, line) {
@@ -207,5 +239,5 @@ pub fn code_of(alloc: Global, op: Op, line: &ItemForm) -> Result<Instr, JudgeErr
     if is_long(line) {
         return Err(JudgeError::Refused(RefusalKind::TooMany));
     }
-    Ok(instr)
+    Ok(instr.with_volatile(line.volatile && op.is_load()))
 }

@@ -35,13 +35,13 @@ use crate::opcode::DebugOpcode;
 use crate::operand::virtual_register;
 use base_ids::function_ids::DebugNumber;
 use base_ids::metadata::NodeId;
-use mir_func::item::ItemKind;
-use mir_func::location::Loc;
-use mir_func::variable::{Fragment, MarkValue, VarId};
 use read_line::form::{Expression, ItemForm, OperandForm};
-use read_metadata::metadata::Metadata;
+use read_line::mir_func_crate::item::ItemKind;
+use read_line::mir_func_crate::location::Loc;
+use read_line::mir_func_crate::variable::{Fragment, MarkValue, VarId};
+use read_line::read_metadata_crate::metadata::Metadata;
+use read_line::read_token_crate::lexeme::{Flag, RegisterName};
 use read_refusal::kind::RefusalKind;
-use read_token::lexeme::{Flag, RegisterName};
 use rv64_instr::place::Place;
 use rv64_instr::reg::Reg;
 

@@ -23,13 +23,13 @@ ghost use Rattle.read_item.specs.Debug.{is_empty, debug_of};
 use crate::address::address_of;
 use crate::code::code_of;
 use crate::debug::debug_of;
-use crate::judged::{JudgeError, Judged, JudgedItem, StackIds};
+use crate::judged::{BoxedItem, JudgeError, Judged, JudgedItem, StackIds};
 use crate::opcode::{DebugOpcode, Opcode, opcode_of, returning};
 use base_ids::function_ids::SlotId;
 use base_ids::limits::MAX_NUMBER;
-use mir_func::item::ItemKind;
 use read_line::form::{ItemForm, OperandForm};
-use read_metadata::metadata::Metadata;
+use read_line::mir_func_crate::item::ItemKind;
+use read_line::read_metadata_crate::metadata::Metadata;
 use read_refusal::kind::RefusalKind;
 use rv64_instr::op::Op;
 use std::alloc::{AllocError, Global};
@@ -99,7 +99,7 @@ fn judge_address(alloc: Global, line: &ItemForm) -> Result<Judged, JudgeError>
         loc: line.loc,
         entries: StackIds::from(entries),
     };
-    Ok(Judged::Two(first, second))
+    Ok(Judged::Two(first, BoxedItem::new(alloc, second)?))
 }
 
 /// The item of a debug line.

@@ -1,11 +1,14 @@
 //! The results of judging a line.
 
+ghost use Rattle.std.specs.Prelude.{◌≡◌, IfOk};
+
 use base_ids::function_ids::SlotId;
 use base_list::List;
-use mir_func::item::ItemKind;
-use mir_func::location::Loc;
+use read_line::mir_func_crate::item::ItemKind;
+use read_line::mir_func_crate::location::Loc;
 use read_refusal::kind::RefusalKind;
-use std::alloc::AllocError;
+use std::alloc::{AllocError, Global};
+use std::marker::Model;
 use thiserror::Error;
 
 /// The numbers of what a line names and its function has to declare, in order: N for `%stack.N`, and 2^31 and N for
@@ -24,7 +27,40 @@ pub struct JudgedItem {
     pub entries: StackIds,
 }
 
-/// What a line is.
+/// An item in memory of its own. A contract sees it as the item.
+#[derive(Debug, Drop)]
+pub struct BoxedItem {
+    /// The item.
+    item: Box<JudgedItem>,
+}
+
+impl Model for BoxedItem {
+    ghost use Rattle.read_item.specs.declared.judged.JudgedItem.{JudgedItem};
+
+    ghost Value = { JudgedItem };
+
+    ghost view = { λ b. b.item.value };
+}
+
+impl BoxedItem {
+    /// This item in memory of its own.
+    pub fn new(alloc: Global, item: JudgedItem) -> Result<BoxedItem, AllocError>
+        ensures { IfOk result (λ boxed. boxed ≡ item) }
+    {
+        Ok(BoxedItem {
+            item: Box::new(alloc, item)?,
+        })
+    }
+
+    /// The item. Its memory is given back.
+    pub fn into_item(self) -> JudgedItem
+        ensures { result ≡ self }
+    {
+        Box::into_inner(self.item)
+    }
+}
+
+/// What a line is. It is moved once a line, so that the second of two items, which few lines have, isn't in it.
 #[derive(Debug, Drop)]
 pub enum Judged {
     /// It is ignored.
@@ -32,7 +68,7 @@ pub enum Judged {
     /// An item.
     Item(JudgedItem),
     /// Two items, one after the other.
-    Two(JudgedItem, JudgedItem),
+    Two(JudgedItem, BoxedItem),
 }
 
 /// Why a line is no item and isn't ignored either.

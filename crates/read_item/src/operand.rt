@@ -31,7 +31,7 @@ ghost use Rattle.read_item.specs.Code.{
 use crate::place::{ADDRESS, OperandKind, behind, front, places};
 use base_ids::function_ids::{BlockId, ObjectId, SlotId};
 use read_line::form::{AddressForm, ItemForm, OperandForm, RegisterForm};
-use read_token::lexeme::{Flag, RegisterName};
+use read_line::read_token_crate::lexeme::{Flag, RegisterName};
 use rv64_instr::arithmetic::{load_width, store_width};
 use rv64_instr::name::Name;
 use rv64_instr::op::Op;
@@ -296,7 +296,7 @@ fn placed_by(
 ) -> Result<Option<Operands>, AllocError>
     ensures { IfOk result (λ operands. operands ≡ append_to first (placed_by op places.now forms.now)) }
 {
-    if op.has_register_callee() {
+    if op.has_implicit_callee() {
         placed_behind_callee(alloc, first, places, forms)
     } else {
         placed(alloc, first, places, forms)

@@ -62,7 +62,9 @@ const CALL: [OperandKind; 2] = [OperandKind::Symbol, OperandKind::Mask];
 
 const RETURN: [OperandKind; 0] = [];
 
-const HELD_CALL: [OperandKind; 2] = [OperandKind::Implicit, OperandKind::Mask];
+const HELD_CALL: [OperandKind; 2] = [OperandKind::Register, OperandKind::Mask];
+
+const HELD_GONE: [OperandKind; 2] = [OperandKind::Implicit, OperandKind::Mask];
 
 const TAIL: [OperandKind; 1] = [OperandKind::Symbol];
 
@@ -90,7 +92,8 @@ pub fn places(op: Op, slot: bool) -> &'static [OperandKind]
         Op::PseudoBr => &JUMP,
         Op::PseudoCall | Op::NoReturnCall => &CALL,
         Op::PseudoRet => &RETURN,
-        Op::PseudoCallIndirect | Op::NoReturnCallIndirect => &HELD_CALL,
+        Op::PseudoCallIndirect => &HELD_CALL,
+        Op::NoReturnCallIndirect => &HELD_GONE,
         Op::PseudoTail => &TAIL,
         Op::PseudoTailIndirect => &HELD_TAIL,
     }

@@ -8,3 +8,4 @@ pub mod Laws
 pub mod Reaches
 pub mod Longest
 pub mod Spelled
+pub mod Floats

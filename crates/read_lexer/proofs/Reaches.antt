@@ -1,6 +1,6 @@
 -- No token at a place is longer than the one that is read there.
-use Rattle.std.proofs.Common.{◌≡◌, ℕ, zero, suc, ◌+◌, ◌<◌, ◌≤◌, ◌==◌, ◌&&◌, ◌||◌, Bool, true, false, not, cond, List, [], ◌∷◌, length, take, Result, Ok, Err}
-use Rattle.std.proofs.Common.{refl, sym, subst, arith, inl, inr, ◌⊎◌}
+use Rattle.std.proofs.Common.{◌≡◌, ℕ, zero, suc, ◌+◌, ◌<◌, ◌≤◌, ◌==◌, ◌&&◌, ◌||◌, Bool, true, false, not, cond, List, [], ◌∷◌, length, take, drop, Result, Ok, Err}
+use Rattle.std.proofs.Common.{refl, sym, ap, subst, arith, inl, inr, ◌⊎◌}
 use Rattle.std.specs.Prelude.{codes}
 use Rattle.std.specs.List.{prefix_len, position_or_len, list_all, list_any, AllByRecursion}
 use Rattle.std.specs.Char.{is_ascii_digit, is_ascii_hexdigit}
@@ -9,11 +9,12 @@ use Rattle.std.proofs.lemmas.Bool.Decides.{nat_tests}
 use Rattle.std.proofs.lemmas.List.{length-take-le}
 use Rattle.read_lexer.specs.declared.fault.LexError.{LexError}
 use Rattle.read_lexer.specs.declared.parts.Class.{Class}
-use Rattle.read_lexer.specs.declared.parts.Class.TheVariants.{Word, Register, Percent, Node, Kind, Symbol, Integer, Text, Single}
+use Rattle.read_lexer.specs.declared.parts.Class.TheVariants.{Word, Register, Percent, Node, Kind, Symbol, Integer, Float, Text, Single}
 use Rattle.read_lexer.specs.declared.parts.Token.{Token}
-use Rattle.read_lexer.specs.Bytes.{is_word_start, is_word_byte, is_symbol_byte, is_quote, is_single, word_len}
-use Rattle.read_lexer.specs.Front.{token, marked, quoted, metadata_at, symbol_at, hexadecimal_len, integer_at, minus_at, token_at}
-use Rattle.read_lexer.specs.Spelling.{is_run, is_word, is_closed_by, is_quoted_name, is_hexadecimal, spells}
+use Rattle.read_lexer.specs.Bytes.{is_word_start, is_word_byte, is_symbol_byte, is_quote, is_single, word_len, fraction_len}
+use Rattle.read_lexer.specs.Front.{token, marked, quoted, metadata_at, symbol_at, hexadecimal_len, decimal_at, integer_at, minus_at, token_at}
+use Rattle.read_lexer.specs.Spelling.{is_run, is_word, is_closed_by, is_quoted_name, is_hexadecimal, is_float, spells}
+use Rattle.read_lexer.proofs.Floats.{float-le}
 
 -- ---- tests
 
@@ -77,6 +78,15 @@ end_of at (Err e) = at
 token-end : (class : Class) (at len : ℕ) → end_of at (token class at len) ≡ at + len
 token-end class at len = refl
 
+far : (a b c : ℕ) → a ≤ b → b ≤ c → a ≤ c
+far a b c le more = omega (arith, le, more)
+
+-- a number is at least as long as the integer at its front
+decimal_at_least : (floats : Bool) (at len : ℕ) (behind : List ℕ) → at + len ≤ end_of at (decimal_at floats at len behind)
+decimal_at_least floats at len behind =
+    elim (floats && not (fraction_len behind == 0))
+    as (λ z. at + len ≤ end_of at (cond z (token Float at (len + fraction_len behind)) (token Integer at len))) [ true ↦ omega arith | false ↦ omega arith ]
+
 marked-end : (class : Class) (at run : ℕ) → 0 < run → end_of at (marked class at run) ≡ at + (1 + run)
 marked-end class at run more = let some : run ≡ 0 → ⊥ = λ e. omega arith in rw (ne_eqb run 0 some) refl
 
@@ -84,8 +94,8 @@ quoted-end : (class : Class) (at open_at quote : ℕ) (after : List ℕ) → pos
     end_of at (quoted class at open_at quote after) ≡ open_at + 2 + position_or_len (λ b. b == quote) after
 quoted-end class at open_at quote after lt = rw (lt-ltb _ _ lt) refl
 
-module _ (at : ℕ) (after : List ℕ) (n : ℕ) (le : n ≤ length after) where
-  word_reaches : (first : ℕ) → is_word (first ∷ take n after) ≡ true → at + n + 1 ≤ end_of at (token_at at first after)
+module _ (floats : Bool) (at : ℕ) (after : List ℕ) (n : ℕ) (le : n ≤ length after) where
+  word_reaches : (first : ℕ) → is_word (first ∷ take n after) ≡ true → at + n + 1 ≤ end_of at (token_at floats at first after)
   unfolding token_at
   word_reaches first is =
       let w = both (is_word_start first) (list_all is_word_byte (take n after)) is in
@@ -93,33 +103,45 @@ module _ (at : ℕ) (after : List ℕ) (n : ℕ) (le : n ≤ length after) where
       let h = all-le is_word_byte after n le w.1 in
       rw start (omega arith)
 
-  register_reaches : is_run is_word_byte (take n after) ≡ true → at + n + 1 ≤ end_of at (token_at at 36 after)
+  register_reaches : is_run is_word_byte (take n after) ≡ true → at + n + 1 ≤ end_of at (token_at floats at 36 after)
   unfolding token_at
   register_reaches is = let h = run-le is_word_byte after n le is in omega (arith, marked-end Register at (prefix_len is_word_byte after) (omega arith))
 
-  percent_reaches : is_run is_word_byte (take n after) ≡ true → at + n + 1 ≤ end_of at (token_at at 37 after)
+  percent_reaches : is_run is_word_byte (take n after) ≡ true → at + n + 1 ≤ end_of at (token_at floats at 37 after)
   unfolding token_at
   percent_reaches is = let h = run-le is_word_byte after n le is in omega (arith, marked-end Percent at (prefix_len is_word_byte after) (omega arith))
 
-  node_reaches : is_run is_ascii_digit (take n after) ≡ true → at + n + 1 ≤ end_of at (token_at at 33 after)
+  node_reaches : is_run is_ascii_digit (take n after) ≡ true → at + n + 1 ≤ end_of at (token_at floats at 33 after)
   unfolding token_at
   node_reaches is =
       let h = run-le is_ascii_digit after n le is in
       let some : prefix_len is_ascii_digit after ≡ 0 → ⊥ = λ e. omega arith in
       rw (ne_eqb (prefix_len is_ascii_digit after) 0 some) (omega (arith, marked-end Node at (prefix_len is_ascii_digit after) (omega arith)))
 
-  minus_reaches : is_run is_ascii_digit (take n after) ≡ true → at + n + 1 ≤ end_of at (token_at at 45 after)
+  minus_reaches : is_run is_ascii_digit (take n after) ≡ true → at + n + 1 ≤ end_of at (token_at floats at 45 after)
   unfolding token_at
   minus_reaches is =
+      let run = prefix_len is_ascii_digit after in
       let h = run-le is_ascii_digit after n le is in
-      let some : prefix_len is_ascii_digit after ≡ 0 → ⊥ = λ e. omega arith in
-      rw (ne_eqb (prefix_len is_ascii_digit after) 0 some) (omega arith)
+      let some : run ≡ 0 → ⊥ = λ e. omega arith in
+      rw (ne_eqb run 0 some)
+      (far (at + n + 1) (at + (1 + run)) (end_of at (decimal_at floats at (1 + run) (drop run after))) (omega (arith, h.1))
+      (decimal_at_least floats at (1 + run) (drop run after)))
 
-  text_reaches_double : is_closed_by 34 (take n after) ≡ true → at + n + 1 ≤ end_of at (token_at at 34 after)
+  minus_float_reaches : floats ≡ true → is_float (take n after) ≡ true → at + n + 1 ≤ end_of at (token_at floats at 45 after)
+  unfolding token_at
+  minus_float_reaches on is =
+      let run = prefix_len is_ascii_digit after in
+      let h = float-le after n le is in
+      let some : run ≡ 0 → ⊥ = λ e. omega (arith, h.0, e) in
+      let more : fraction_len (drop run after) ≡ 0 → ⊥ = λ e. omega (arith, h.1, e) in
+      rw (ne_eqb run 0 some, on, ne_eqb (fraction_len (drop run after)) 0 more) (omega (arith, h.2))
+
+  text_reaches_double : is_closed_by 34 (take n after) ≡ true → at + n + 1 ≤ end_of at (token_at floats at 34 after)
   unfolding token_at
   text_reaches_double is = let h = closed-le 34 after n le is in omega (arith, h.0, quoted-end Text at at 34 after h.1)
 
-  text_reaches_single : is_closed_by 39 (take n after) ≡ true → at + n + 1 ≤ end_of at (token_at at 39 after)
+  text_reaches_single : is_closed_by 39 (take n after) ≡ true → at + n + 1 ≤ end_of at (token_at floats at 39 after)
   unfolding token_at
   text_reaches_single is = let h = closed-le 39 after n le is in omega (arith, h.0, quoted-end Text at at 39 after h.1)
 
@@ -170,15 +192,24 @@ among P b (c ∷ cs) is all =
 
 -- ---- the other classes
 
-minus_at_least : (at : ℕ) (after : List ℕ) → at + 1 ≤ end_of at (minus_at at after)
-minus_at_least at after =
-    elim (prefix_len is_ascii_digit after == 0) as (λ z. at + 1 ≤ end_of at (cond z (token (Single 45) at 1) (token Integer at (1 + prefix_len is_ascii_digit
-    after)))) [ true ↦ omega arith | false ↦ omega arith ]
+minus_at_least : (floats : Bool) (at : ℕ) (after : List ℕ) → at + 1 ≤ end_of at (minus_at floats at after)
+minus_at_least floats at after =
+    let run = prefix_len is_ascii_digit after in
+    elim (run == 0) as (λ z. at + 1 ≤ end_of at (cond z (token (Single 45) at 1) (decimal_at floats at (1 + run) (drop run after)))) [
+      | true ↦ omega arith
+      | false ↦ far (at + 1) (at + (1 + run)) (end_of at (decimal_at floats at (1 + run) (drop run after))) (omega arith)
+          (decimal_at_least floats at (1 + run) (drop run after))
+    ]
 
-integer_at_least : (at first : ℕ) (after : List ℕ) → at + 1 ≤ end_of at (integer_at at first after)
-integer_at_least at first after =
-    elim (hexadecimal_len first after == 0) as (λ z. at + 1 ≤ end_of at (cond z (token Integer at (1 + prefix_len is_ascii_digit after)) (token Integer at (2 +
-    hexadecimal_len first after)))) [ true ↦ omega arith | false ↦ omega arith ]
+integer_at_least : (floats : Bool) (at first : ℕ) (after : List ℕ) → at + 1 ≤ end_of at (integer_at floats at first after)
+integer_at_least floats at first after =
+    let run = prefix_len is_ascii_digit after in
+    elim (hexadecimal_len first after == 0) as (λ z. at + 1 ≤ end_of at (cond z (decimal_at floats at (1 + run) (drop run after)) (token Integer at (2 +
+    hexadecimal_len first after)))) [
+      | true ↦ far (at + 1) (at + (1 + run)) (end_of at (decimal_at floats at (1 + run) (drop run after))) (omega arith)
+          (decimal_at_least floats at (1 + run) (drop run after))
+      | false ↦ omega arith
+    ]
 
 same_either : (b : Bool) (n : ℕ) → cond b n n ≡ n
 same_either true n = refl
@@ -193,30 +224,67 @@ hexadecimal_or_digits first (b ∷ bs) = by_x (b == 120) refl
     by_x true e = inr (subst (λ (c : ℕ). prefix_len is_ascii_digit (c ∷ bs) ≡ 0) (sym (eqb-true b 120 e)) refl)
     by_x false e = inl (same_either (first == 48) 0)
 
-digits_reach : (at first : ℕ) (after : List ℕ) (n : ℕ) → n ≤ length after → list_all is_ascii_digit (take n after) ≡ true →
-    at + n + 1 ≤ end_of at (integer_at at first after)
-digits_reach at first after n le is =
+digits_reach : (floats : Bool) → (at first : ℕ) (after : List ℕ) (n : ℕ) → n ≤ length after → list_all is_ascii_digit (take n after) ≡ true →
+    at + n + 1 ≤ end_of at (integer_at floats at first after)
+digits_reach floats at first after n le is =
     let h = all-le is_ascii_digit after n le is in
     elim (hexadecimal_or_digits first after) [
-      | inl none ↦ rw (eq-eqb (hexadecimal_len first after) 0 none) (omega arith)
-      | inr none ↦ let least = integer_at_least at first after in omega arith
+      | inl none ↦
+          let run = prefix_len is_ascii_digit after in
+          rw (eq-eqb (hexadecimal_len first after) 0 none)
+          (far (at + n + 1) (at + (1 + run)) (end_of at (decimal_at floats at (1 + run) (drop run after))) (omega (arith, h))
+          (decimal_at_least floats at (1 + run) (drop run after)))
+      | inr none ↦ let least = integer_at_least floats at first after in omega arith
     ]
 
-hexadecimal_reaches : (at first : ℕ) (after : List ℕ) (n : ℕ) → n ≤ length after → (first == 48) ≡ true → is_hexadecimal (take n after) ≡ true →
-    at + n + 1 ≤ end_of at (integer_at at first after)
-hexadecimal_reaches at first after zero le zero_is is = absurd cc
-hexadecimal_reaches at first [] (suc n) le zero_is is = absurd (omega arith)
-hexadecimal_reaches at first (b ∷ bs) (suc n) le zero_is is =
+hexadecimal_reaches : (floats : Bool) → (at first : ℕ) (after : List ℕ) (n : ℕ) → n ≤ length after → (first == 48) ≡ true → is_hexadecimal (take n after) ≡ true →
+    at + n + 1 ≤ end_of at (integer_at floats at first after)
+hexadecimal_reaches floats at first after zero le zero_is is = absurd cc
+hexadecimal_reaches floats at first [] (suc n) le zero_is is = absurd (omega arith)
+hexadecimal_reaches floats at first (b ∷ bs) (suc n) le zero_is is =
     let w = both (b == 120) (is_run is_ascii_hexdigit (take n bs)) is in
     let x_is : (b == 120) ≡ true = w.0 in
     let h = run-le is_ascii_hexdigit bs n (omega arith) w.1 in
     let some : prefix_len is_ascii_hexdigit bs ≡ 0 → ⊥ = λ e. omega (arith, h.0, h.1) in
     rw (zero_is, x_is, ne_eqb (prefix_len is_ascii_hexdigit bs) 0 some) (omega (arith, h.0, h.1))
 
-single_reaches : (at : ℕ) (after : List ℕ) (first : ℕ) → is_single first ≡ true → at + 1 ≤ end_of at (token_at at first after)
+-- no fraction stands behind `0x`
+fraction_no_hexadecimal : (first : ℕ) (after : List ℕ) → 0 < fraction_len (drop (prefix_len is_ascii_digit after) after) → hexadecimal_len first after ≡ 0
+fraction_no_hexadecimal first [] more = refl
+fraction_no_hexadecimal first (b ∷ bs) more = by_x (b == 120) refl
+  where
+    none_behind : b ≡ 120 → 0 < fraction_len (drop (prefix_len is_ascii_digit (b ∷ bs)) (b ∷ bs)) → ⊥
+    none_behind e some =
+        let f : 0 < 0 = subst (λ (c : ℕ). 0 < fraction_len (drop (prefix_len is_ascii_digit (c ∷ bs)) (c ∷ bs))) e some in
+        omega (arith, f)
+
+    by_x : (x : Bool) → (b == 120) ≡ x → cond (first == 48) (cond x (prefix_len is_ascii_hexdigit bs) 0) 0 ≡ 0
+    by_x true e = absurd (none_behind (eqb-true b 120 e) more)
+    by_x false e = same_either (first == 48) 0
+
+some_digit : (here : Bool) (k : ℕ) → not (cond here (1 + k) 0 == 0) ≡ true → here ≡ true
+some_digit true k e = refl
+some_digit false k e = absurd cc
+
+digit_float_reaches : (floats : Bool) (at first : ℕ) (after : List ℕ) (n : ℕ) → n ≤ length after → floats ≡ true → is_ascii_digit first ≡ true →
+    is_float (first ∷ take n after) ≡ true → at + n + 1 ≤ end_of at (integer_at floats at first after)
+digit_float_reaches floats at first after n le on digit is =
+    let run = prefix_len is_ascii_digit after in
+    let e : 1 + run ≡ suc run = omega arith in
+    let whole : prefix_len is_ascii_digit (first ∷ after) ≡ suc run = rw (digit, e) refl in
+    let h = float-le (first ∷ after) (suc n) (omega (arith, le)) is in
+    let behind : drop (prefix_len is_ascii_digit (first ∷ after)) (first ∷ after) ≡ drop run after = ap (λ (m : ℕ). drop m (first ∷ after)) whole in
+    let count = ap fraction_len behind in
+    let some : 0 < fraction_len (drop run after) = omega (arith, h.1, count) in
+    let hexadecimal = fraction_no_hexadecimal first after some in
+    let more : fraction_len (drop run after) ≡ 0 → ⊥ = λ z. omega (arith, some, z) in
+    rw (eq-eqb (hexadecimal_len first after) 0 hexadecimal, on, ne_eqb (fraction_len (drop run after)) 0 more)
+    (omega (arith, h.2, whole, count))
+
+single_reaches : (floats : Bool) → (at : ℕ) (after : List ℕ) (first : ℕ) → is_single first ≡ true → at + 1 ≤ end_of at (token_at floats at first after)
 unfolding token_at
-single_reaches at after first is =
-    among (λ b. at + 1 ≤ end_of at (token_at at b after)) first (codes "=,():{}[]<>|+-") is (
+single_reaches floats at after first is =
+    among (λ b. at + 1 ≤ end_of at (token_at floats at b after)) first (codes "=,():{}[]<>|+-") is (
       omega arith,
       (
         omega arith,
@@ -238,7 +306,7 @@ single_reaches at after first is =
                         omega arith,
                         (
                           omega arith,
-                          (omega arith, (omega arith, (minus_at_least at after, tt))),
+                          (omega arith, (omega arith, (minus_at_least floats at after, tt))),
                         ),
                       ),
                     ),
@@ -262,33 +330,33 @@ kind_reaches at (x ∷ xs) (suc n) le is =
 
 -- ---- every class
 
-abbrev Reaches : ℕ → List ℕ → ℕ → ℕ → Type 0
-Reaches at after n first = at + n + 1 ≤ end_of at (token_at at first after)
+abbrev Reaches : (floats : Bool) → ℕ → List ℕ → ℕ → ℕ → Type 0
+Reaches floats at after n first = at + n + 1 ≤ end_of at (token_at floats at first after)
 
 -- a text at a place that is a token is no longer than the token that is read there
-pub reaches : (class : Class) (at first : ℕ) (after : List ℕ) (n : ℕ) → n ≤ length after → spells class (first ∷ take n after) ≡ true →
-    at + n + 1 ≤ end_of at (token_at at first after)
+pub reaches : (floats : Bool) → (class : Class) (at first : ℕ) (after : List ℕ) (n : ℕ) → n ≤ length after → spells floats class (first ∷ take n after) ≡ true →
+    at + n + 1 ≤ end_of at (token_at floats at first after)
 unfolding token_at
-reaches Word at first after n le is = word_reaches at after n le first is
-reaches Register at first after n le is =
+reaches floats Word at first after n le is = word_reaches floats at after n le first is
+reaches floats Register at first after n le is =
     let w = both (first == 36) (is_run is_word_byte (take n after)) is in
-    subst (Reaches at after n) (sym (eqb-true first 36 w.0)) (register_reaches at after n le w.1)
-reaches Percent at first after n le is =
+    subst (Reaches floats at after n) (sym (eqb-true first 36 w.0)) (register_reaches floats at after n le w.1)
+reaches floats Percent at first after n le is =
     let w = both (first == 37) (is_run is_word_byte (take n after)) is in
-    subst (Reaches at after n) (sym (eqb-true first 37 w.0)) (percent_reaches at after n le w.1)
-reaches Node at first after n le is =
+    subst (Reaches floats at after n) (sym (eqb-true first 37 w.0)) (percent_reaches floats at after n le w.1)
+reaches floats Node at first after n le is =
     let w = both (first == 33) (is_run is_ascii_digit (take n after)) is in
-    subst (Reaches at after n) (sym (eqb-true first 33 w.0)) (node_reaches at after n le w.1)
-reaches Kind at first after n le is =
+    subst (Reaches floats at after n) (sym (eqb-true first 33 w.0)) (node_reaches floats at after n le w.1)
+reaches floats Kind at first after n le is =
     let w = both (first == 33) (is_word (take n after)) is in
-    subst (Reaches at after n) (sym (eqb-true first 33 w.0)) (kind_reaches at after n le w.1)
-reaches Symbol at first after n le is =
+    subst (Reaches floats at after n) (sym (eqb-true first 33 w.0)) (kind_reaches at after n le w.1)
+reaches floats Symbol at first after n le is =
     let w = both (first == 64 || first == 38) (is_run is_symbol_byte (take n after) || is_quoted_name (take n after)) is in
     elim (one_of (first == 64) (first == 38) w.0) [
-      | inl e ↦ subst (Reaches at after n) (sym (eqb-true first 64 e)) (symbol_at-reaches at after n le w.1)
-      | inr e ↦ subst (Reaches at after n) (sym (eqb-true first 38 e)) (symbol_at-reaches at after n le w.1)
+      | inl e ↦ subst (Reaches floats at after n) (sym (eqb-true first 64 e)) (symbol_at-reaches at after n le w.1)
+      | inr e ↦ subst (Reaches floats at after n) (sym (eqb-true first 38 e)) (symbol_at-reaches at after n le w.1)
     ]
-reaches Integer at first after n le is =
+reaches floats Integer at first after n le is =
     elim (one_of (is_ascii_digit first && (list_all is_ascii_digit (take n after) || (first == 48 && is_hexadecimal (take n after)))) (first ==
     45 && is_run is_ascii_digit (take n after)) is) [
       | inl number ↦
@@ -296,23 +364,35 @@ reaches Integer at first after n le is =
           let digit : is_ascii_digit first ≡ true = w.0 in
           let start : is_word_start first ≡ false = digit_no_start first w.0 in
           rw (start, digit) (elim (one_of (list_all is_ascii_digit (take n after)) (first == 48 && is_hexadecimal (take n after)) w.1) [
-            | inl all ↦ digits_reach at first after n le all
-            | inr hex ↦ let v = both (first == 48) (is_hexadecimal (take n after)) hex in hexadecimal_reaches at first after n le v.0 v.1
+            | inl all ↦ digits_reach floats at first after n le all
+            | inr hex ↦ let v = both (first == 48) (is_hexadecimal (take n after)) hex in hexadecimal_reaches floats at first after n le v.0 v.1
           ])
       | inr minus ↦
           let w = both (first == 45) (is_run is_ascii_digit (take n after)) minus in
-          subst (Reaches at after n) (sym (eqb-true first 45 w.0)) (minus_reaches at after n le w.1)
+          subst (Reaches floats at after n) (sym (eqb-true first 45 w.0)) (minus_reaches floats at after n le w.1)
     ]
-reaches Text at first after n le is =
+reaches floats Float at first after n le is =
+    let w = both floats (cond (first == 45) (is_float (take n after)) (is_float (first ∷ take n after))) is in
+    by_minus (first == 45) refl w.0 w.1
+  where
+    by_minus : (z : Bool) → (first == 45) ≡ z → floats ≡ true → cond z (is_float (take n after)) (is_float (first ∷ take n after)) ≡ true →
+        at + n + 1 ≤ end_of at (token_at floats at first after)
+    by_minus true e on float = subst (Reaches floats at after n) (sym (eqb-true first 45 e)) (minus_float_reaches floats at after n le on float)
+    by_minus false e on float =
+        let v = both (not (prefix_len is_ascii_digit (first ∷ take n after) == 0)) _ float in
+        let digit = some_digit (is_ascii_digit first) (prefix_len is_ascii_digit (take n after)) v.0 in
+        let start : is_word_start first ≡ false = digit_no_start first digit in
+        rw (start, digit) (digit_float_reaches floats at first after n le on digit float)
+reaches floats Text at first after n le is =
     let w = both (is_quote first) (is_closed_by first (take n after)) is in
-    let Closes : ℕ → Type 0 = λ b. is_closed_by b (take n after) ≡ true → Reaches at after n b in
+    let Closes : ℕ → Type 0 = λ b. is_closed_by b (take n after) ≡ true → Reaches floats at after n b in
     elim (one_of (first == 34) (first == 39) w.0) [
-      | inl e ↦ subst Closes (sym (eqb-true first 34 e)) (text_reaches_double at after n le) w.1
-      | inr e ↦ subst Closes (sym (eqb-true first 39 e)) (text_reaches_single at after n le) w.1
+      | inl e ↦ subst Closes (sym (eqb-true first 34 e)) (text_reaches_double floats at after n le) w.1
+      | inr e ↦ subst Closes (sym (eqb-true first 39 e)) (text_reaches_single floats at after n le) w.1
     ]
-reaches (Single byte) at first after n le is =
+reaches floats (Single byte) at first after n le is =
     let w = both (first == byte && is_single first) (length (take n after) == 0) is in
     let v = both (first == byte) (is_single first) w.0 in
     let none = eqb-true (length (take n after)) 0 w.1 in
     let len = length-take-le n after le in
-    omega (arith, single_reaches at after first v.1)
+    omega (arith, single_reaches floats at after first v.1)

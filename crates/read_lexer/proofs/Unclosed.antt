@@ -1,5 +1,5 @@
 -- Where reading says that a quote isn't closed, it opens a text that nothing closes.
-use Rattle.std.proofs.Common.{◌≡◌, ℕ, zero, suc, ◌+◌, ◌-◌, ◌<◌, ◌==◌, ◌||◌, Bool, true, false, not, cond, ltb, List, [], ◌∷◌, length, get_or, drop, Some, None}
+use Rattle.std.proofs.Common.{◌≡◌, ℕ, zero, suc, ◌+◌, ◌-◌, ◌<◌, ◌==◌, ◌&&◌, ◌||◌, Bool, true, false, not, cond, ltb, List, [], ◌∷◌, length, get_or, drop, Some, None}
 use Rattle.std.proofs.Common.{Result, Ok, Err, IsTrue, refl, sym, ap, subst, ◌∙◌, arith}
 use Rattle.std.specs.List.{prefix_len, position_or_len}
 use Rattle.std.specs.Char.{is_ascii_digit}
@@ -9,10 +9,10 @@ use Rattle.std.proofs.lemmas.List.Sums.{prefix_len_passes}
 use Rattle.read_lexer.specs.declared.fault.LexError.{LexError}
 use Rattle.read_lexer.specs.declared.fault.LexError.TheVariants.{BadByte, UnclosedString}
 use Rattle.read_lexer.specs.declared.parts.Class.{Class}
-use Rattle.read_lexer.specs.declared.parts.Class.TheVariants.{Word, Register, Percent, Node, Kind, Symbol, Integer, Text, Single}
+use Rattle.read_lexer.specs.declared.parts.Class.TheVariants.{Word, Register, Percent, Node, Kind, Symbol, Integer, Float, Text, Single}
 use Rattle.read_lexer.specs.declared.parts.Token.{Token}
-use Rattle.read_lexer.specs.Bytes.{is_blank, is_word_start, is_word_byte, is_symbol_byte, is_quote, is_single, word_len}
-use Rattle.read_lexer.specs.Front.{token, marked, quoted, closed, metadata_at, symbol_at, hexadecimal_len, integer_at, minus_at, token_at}
+use Rattle.read_lexer.specs.Bytes.{is_blank, is_word_start, is_word_byte, is_symbol_byte, is_quote, is_single, word_len, fraction_len}
+use Rattle.read_lexer.specs.Front.{token, marked, quoted, closed, metadata_at, symbol_at, hexadecimal_len, decimal_at, integer_at, minus_at, token_at}
 use Rattle.read_lexer.specs.Line.{followed_by, and_then, tokens_from, tokens_of, IsUnclosed}
 use Rattle.read_lexer.proofs.Placed.{behind_front}
 
@@ -24,7 +24,7 @@ by_test : (P : Result Token LexError → Type 0) (b : Bool) (x y : Result Token 
 by_test P true x y p q = p refl
 by_test P false x y p q = q refl
 
-module _ (line : List ℕ) where
+module _ (floats : Bool) (line : List ℕ) where
   choice : (b : Bool) (x y : Result Token LexError) → Alone line x → Alone line y → Alone line (cond b x y)
   choice b x y p q = by_test (Alone line) b x y (λ _. p) (λ _. q)
 
@@ -75,15 +75,24 @@ module _ (line : List ℕ) where
       (λ is. quoted-alone Symbol at (at + 1) 34 bs (omega (arith, f.2)) refl (sym f.1 ∙ eqb-true b 34 is) f.0)
       (λ _. marked-alone Symbol at (prefix_len is_symbol_byte (b ∷ bs)))
 
-  integer-alone : (at first : ℕ) (after : List ℕ) → Alone line (integer_at at first after)
-  integer-alone at first after = choice (hexadecimal_len first after == 0) (token Integer at (1 + prefix_len is_ascii_digit after)) (token Integer at (2 +
-      hexadecimal_len first after)) (token-alone Integer at _) (token-alone Integer at _)
+  decimal-alone : (at len : ℕ) (behind : List ℕ) → Alone line (decimal_at floats at len behind)
+  decimal-alone at len behind =
+      choice (floats && not (fraction_len behind == 0)) (token Float at (len + fraction_len behind)) (token Integer at len) (token-alone Float at _)
+      (token-alone Integer at len)
 
-  minus-alone : (at : ℕ) (after : List ℕ) → Alone line (minus_at at after)
-  minus-alone at after = choice (prefix_len is_ascii_digit after == 0) (token (Single 45) at 1) (token Integer at (1 + prefix_len is_ascii_digit after))
-      (token-alone (Single 45) at 1) (token-alone Integer at _)
+  integer-alone : (at first : ℕ) (after : List ℕ) → Alone line (integer_at floats at first after)
+  integer-alone at first after =
+      let run = prefix_len is_ascii_digit after in
+      choice (hexadecimal_len first after == 0) (decimal_at floats at (1 + run) (drop run after)) (token Integer at (2 + hexadecimal_len first after))
+      (decimal-alone at (1 + run) (drop run after)) (token-alone Integer at _)
 
-  token_at-alone : (at first : ℕ) (after : List ℕ) → first ∷ after ≡ drop at line → Alone line (token_at at first after)
+  minus-alone : (at : ℕ) (after : List ℕ) → Alone line (minus_at floats at after)
+  minus-alone at after =
+      let run = prefix_len is_ascii_digit after in
+      choice (run == 0) (token (Single 45) at 1) (decimal_at floats at (1 + run) (drop run after)) (token-alone (Single 45) at 1)
+      (decimal-alone at (1 + run) (drop run after))
+
+  token_at-alone : (at first : ℕ) (after : List ℕ) → first ∷ after ≡ drop at line → Alone line (token_at floats at first after)
   unfolding token_at
   token_at-alone at first after place =
       let f = behind_front line at first after place in
@@ -111,15 +120,15 @@ module _ (line : List ℕ) where
   choice_of_many true x y p q = p
   choice_of_many false x y p q = q
 
-  from_place : (bs : List ℕ) (at inside : ℕ) → bs ≡ drop at line → Alone line (tokens_from at inside bs)
+  from_place : (bs : List ℕ) (at inside : ℕ) → bs ≡ drop at line → Alone line (tokens_from floats at inside bs)
   unfolding tokens_from
   from_place [] at inside place = λ k e. absurd cc
   from_place (b ∷ bs) at (suc inside) place = let f = behind_front line at b bs place in from_place bs (at + 1) inside f.0
   from_place (b ∷ bs) at zero place =
       let f = behind_front line at b bs place in
-      choice_of_many (is_blank b) (tokens_from (at + 1) 0 bs) _ (from_place bs (at + 1) 0 f.0)
-      (and_then-alone (token_at at b bs) (λ t. followed_by t (tokens_from (at + 1) (t.end - (at + 1)) bs)) (token_at-alone at b bs place)
-      (λ t. followed_by-alone t (tokens_from (at + 1) (t.end - (at + 1)) bs) (from_place bs (at + 1) (t.end - (at + 1)) f.0)))
+      choice_of_many (is_blank b) (tokens_from floats (at + 1) 0 bs) _ (from_place bs (at + 1) 0 f.0)
+      (and_then-alone (token_at floats at b bs) (λ t. followed_by t (tokens_from floats (at + 1) (t.end - (at + 1)) bs)) (token_at-alone at b bs place)
+      (λ t. followed_by-alone t (tokens_from floats (at + 1) (t.end - (at + 1)) bs) (from_place bs (at + 1) (t.end - (at + 1)) f.0)))
 
-pub tokens-alone : (line : List ℕ) (at : ℕ) → tokens_of line ≡ Err (UnclosedString at) → IsUnclosed line at
-tokens-alone line at e = from_place line line 0 0 refl at e
+pub tokens-alone : (floats : Bool) → (line : List ℕ) (at : ℕ) → tokens_of floats line ≡ Err (UnclosedString at) → IsUnclosed line at
+tokens-alone floats line at e = from_place floats line line 0 0 refl at e

@@ -1,14 +1,14 @@
 -- The token at the front of the rest of a line: its first byte determines its class, and the bytes after that how long it is. (LLVM, "Machine IR (MIR)
 -- Format Reference Manual", has the notations.)
-use Rattle.std.specs.Prelude.{ℕ, ◌+◌, ◌||◌, ◌==◌, if◌then◌else◌, List, [], ◌∷◌, Option, Some, None, Result, Ok, Err}
+use Rattle.std.specs.Prelude.{ℕ, ◌+◌, Bool, not, ◌&&◌, ◌||◌, ◌==◌, if◌then◌else◌, drop, List, [], ◌∷◌, Option, Some, None, Result, Ok, Err}
 use Rattle.std.specs.List.{prefix_len, position}
 use Rattle.std.specs.Char.{is_ascii_digit, is_ascii_hexdigit}
 use Rattle.read_lexer.specs.declared.fault.LexError.{LexError}
 use Rattle.read_lexer.specs.declared.fault.LexError.TheVariants.{BadByte, UnclosedString}
 use Rattle.read_lexer.specs.declared.parts.Class.{Class}
-use Rattle.read_lexer.specs.declared.parts.Class.TheVariants.{Word, Register, Percent, Node, Kind, Symbol, Integer, Text, Single}
+use Rattle.read_lexer.specs.declared.parts.Class.TheVariants.{Word, Register, Percent, Node, Kind, Symbol, Integer, Float, Text, Single}
 use Rattle.read_lexer.specs.declared.parts.Token.{Token}
-use Rattle.read_lexer.specs.Bytes.{is_word_start, is_word_byte, is_symbol_byte, is_quote, is_single, word_len}
+use Rattle.read_lexer.specs.Bytes.{is_word_start, is_word_byte, is_symbol_byte, is_quote, is_single, word_len, fraction_len}
 
 -- a token of this length, from index `at`
 abbrev pub token : Class → ℕ → ℕ → Result Token LexError
@@ -41,21 +41,29 @@ abbrev pub hexadecimal_len : ℕ → List ℕ → ℕ
 hexadecimal_len first [] = 0
 hexadecimal_len first (b ∷ bs) = if first == 48 then (if b == 120 then prefix_len is_ascii_hexdigit bs else 0) else 0
 
--- an integer from its first digit: `0x` and hexadecimal digits, or decimal digits
-abbrev pub integer_at : ℕ → ℕ → List ℕ → Result Token LexError
-integer_at at first after = if hexadecimal_len first after == 0 then token Integer at (1 + prefix_len is_ascii_digit after) else
-    token Integer at (2 + hexadecimal_len first after)
+-- a decimal number whose first `len` bytes are an integer, where `behind` are the bytes behind those. `floats` is whether floating-point literals are tokens
+abbrev pub decimal_at : (floats : Bool) → (at len : ℕ) → (behind : List ℕ) → Result Token LexError
+decimal_at floats at len behind = if floats && not (fraction_len behind == 0) then token Float at (len + fraction_len behind) else token Integer at len
 
--- after `-`: digits for an integer, or the byte alone
-abbrev pub minus_at : ℕ → List ℕ → Result Token LexError
-minus_at at after = if prefix_len is_ascii_digit after == 0 then token (Single 45) at 1 else token Integer at (1 + prefix_len is_ascii_digit after)
+-- a number from its first digit: `0x` and hexadecimal digits, or decimal digits
+abbrev pub integer_at : (floats : Bool) → ℕ → ℕ → List ℕ → Result Token LexError
+integer_at floats at first after =
+    if hexadecimal_len first after == 0 then decimal_at floats at (1 + prefix_len is_ascii_digit after) (drop (prefix_len is_ascii_digit after) after)
+    else token Integer at (2 + hexadecimal_len first after)
 
--- The token, or the lexical fault, at index `at`, where `first` is the byte there and `after` are the bytes after it.
-unfoldable pub token_at : ℕ → ℕ → List ℕ → Result Token LexError
-token_at at first after =
+-- after `-`: digits for a number, or the byte alone
+abbrev pub minus_at : (floats : Bool) → ℕ → List ℕ → Result Token LexError
+minus_at floats at after =
+    if prefix_len is_ascii_digit after == 0 then token (Single 45) at 1
+    else decimal_at floats at (1 + prefix_len is_ascii_digit after) (drop (prefix_len is_ascii_digit after) after)
+
+-- The token, or the lexical fault, at index `at`, where `first` is the byte there and `after` are the bytes after it. `floats` is whether floating-point
+-- literals are tokens.
+unfoldable pub token_at : (floats : Bool) → ℕ → ℕ → List ℕ → Result Token LexError
+token_at floats at first after =
     if is_word_start first then token Word at (1 + prefix_len is_word_byte after)
-    else (if is_ascii_digit first then integer_at at first after
-    else (if first == 45 then minus_at at after
+    else (if is_ascii_digit first then integer_at floats at first after
+    else (if first == 45 then minus_at floats at after
     else (if first == 36 then marked Register at (prefix_len is_word_byte after)
     else (if first == 37 then marked Percent at (prefix_len is_word_byte after)
     else (if first == 33 then metadata_at at after

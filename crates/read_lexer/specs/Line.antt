@@ -1,5 +1,5 @@
 -- The tokens of a line.
-use Rattle.std.specs.Prelude.{◌≡◌, ◌≢◌, ℕ, zero, suc, ◌+◌, ◌-◌, ◌<◌, ◌≤◌, length, slice_index, IsTrue, if◌then◌else◌, List, [], ◌∷◌, Result, Ok, Err}
+use Rattle.std.specs.Prelude.{◌≡◌, ◌≢◌, ℕ, zero, suc, ◌+◌, ◌-◌, ◌<◌, ◌≤◌, length, slice_index, IsTrue, Bool, if◌then◌else◌, List, [], ◌∷◌, Result, Ok, Err}
 use Rattle.read_lexer.specs.declared.fault.LexError.{LexError}
 use Rattle.read_lexer.specs.declared.fault.LexError.TheVariants as errors
 use Rattle.read_lexer.specs.declared.parts.Token.{Token}
@@ -17,16 +17,17 @@ and_then (Ok t) next = next t
 and_then (Err e) next = Err e
 
 -- The tokens from index `at`. The first `inside` bytes belong to a token that began before; every other byte separates tokens or begins one.
-unfoldable pub tokens_from : ℕ → ℕ → List ℕ → Result (List Token) LexError
-tokens_from at inside [] = Ok []
-tokens_from at (suc inside) (b ∷ bs) = tokens_from (at + 1) inside bs
-tokens_from at zero (b ∷ bs) =
-    if is_blank b then tokens_from (at + 1) 0 bs
-    else and_then (token_at at b bs) (λ t. followed_by t (tokens_from (at + 1) (t.end - (at + 1)) bs))
+-- `floats` is whether floating-point literals are tokens.
+unfoldable pub tokens_from : (floats : Bool) → ℕ → ℕ → List ℕ → Result (List Token) LexError
+tokens_from floats at inside [] = Ok []
+tokens_from floats at (suc inside) (b ∷ bs) = tokens_from floats (at + 1) inside bs
+tokens_from floats at zero (b ∷ bs) =
+    if is_blank b then tokens_from floats (at + 1) 0 bs
+    else and_then (token_at floats at b bs) (λ t. followed_by t (tokens_from floats (at + 1) (t.end - (at + 1)) bs))
 
 -- the tokens of a line, or its first fault
-abbrev pub tokens_of : List ℕ → Result (List Token) LexError
-tokens_of line = tokens_from 0 0 line
+abbrev pub tokens_of : (floats : Bool) → List ℕ → Result (List Token) LexError
+tokens_of floats line = tokens_from floats 0 0 line
 
 -- all bytes from index `from` to before `to` separate tokens
 abbrev pub AreBlank : List ℕ → ℕ → ℕ → Type 0

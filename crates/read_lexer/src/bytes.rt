@@ -1,9 +1,10 @@
 //! The classes of bytes in tokens, and runs of them.
 
-ghost use Rattle.std.specs.Prelude.{◌≡◌, ◌==◌, ◌<◌, ◌≤◌, length, position, IfSome};
+ghost use Rattle.std.specs.Prelude.{◌≡◌, ◌+◌, ◌==◌, ◌<◌, ◌≤◌, ◌^◌, length, position, IfSome};
 ghost use Rattle.std.specs.List.{prefix_len};
 ghost use Rattle.std.specs.Char.{is_ascii_digit, is_ascii_hexdigit};
 ghost use Rattle.read_lexer.specs.Bytes.{is_blank, is_word_start, is_word_byte, is_symbol_byte, is_single, word_len};
+ghost use Rattle.read_lexer.specs.Bytes.{with_digits, sign_len, exponent_len, with_exponent, fraction_len};
 
 /// Whether a byte separates tokens.
 pub fn is_blank(byte: u8) -> bool
@@ -98,6 +99,58 @@ pub fn word(bytes: &[u8]) -> usize
 {
     match bytes {
         [first, after @ ..] if is_word_start(*first) => 1 + word_bytes(after),
+        _ => 0,
+    }
+}
+
+/// A length with that of the digits behind it; 0 if no digit stands there.
+fn with_digits(len: usize, behind: &[u8]) -> usize
+    requires { len + length behind.now < 2 ^ 64 }
+    ensures value { result ≡ with_digits len behind.now }
+    ensures within { result ≤ len + length behind.now }
+{
+    match digits(behind) {
+        0 => 0,
+        run => len + run,
+    }
+}
+
+/// The length of a sign at the front; 0 if there is none.
+fn sign(bytes: &[u8]) -> usize
+    ensures value { result ≡ sign_len bytes.now }
+    ensures within { result ≤ length bytes.now }
+    ensures short { result ≤ 1 }
+{
+    match bytes {
+        [b'+' | b'-', ..] => 1,
+        _ => 0,
+    }
+}
+
+/// The length of an exponent at the front; 0 if there is none.
+fn exponent(bytes: &[u8]) -> usize
+    ensures value { result ≡ exponent_len bytes.now }
+    ensures within { result ≤ length bytes.now }
+{
+    match bytes {
+        [b'e', after @ ..] => {
+            let sign = sign(after);
+            with_digits(1 + sign, &after[sign..])
+        }
+        _ => 0,
+    }
+}
+
+/// The length of a fraction at the front, with its exponent; 0 if there is none.
+pub fn fraction(bytes: &[u8]) -> usize
+    ensures value { result ≡ fraction_len bytes.now }
+    ensures within { result ≤ length bytes.now }
+{
+    match bytes {
+        [b'.', after @ ..] => match with_digits(1, after) {
+            0 => 0,
+            len => len + exponent(&after[len - 1..]),
+        },
         _ => 0,
     }
 }

@@ -1,26 +1,26 @@
 //! The token at the front of the rest of a line.
 
-ghost use Rattle.std.specs.Prelude.{◌≡◌, ◌+◌, ◌<◌, ◌^◌, length};
-ghost use Rattle.read_lexer.specs.Front.{token, marked, quoted, metadata_at, symbol_at, hexadecimal_len, integer_at};
+ghost use Rattle.std.specs.Prelude.{◌≡◌, ◌+◌, ◌<◌, ◌≤◌, ◌^◌, drop, length};
+ghost use Rattle.read_lexer.specs.Front.{token, marked, quoted, metadata_at, symbol_at, hexadecimal_len, decimal_at, integer_at};
 ghost use Rattle.read_lexer.specs.Front.{minus_at, token_at};
 
 use crate::bytes::{
-    digits, hexadecimal_digits, is_single, position, symbol_bytes, word, word_bytes,
+    digits, fraction, hexadecimal_digits, is_single, position, symbol_bytes, word, word_bytes,
 };
 use crate::fault::LexError;
 use crate::parts::{Class, Token};
 
 /// The token, or the lexical fault, at index `at`, where `first` is the byte there and `after` are the bytes after
-/// it.
+/// it. `floats` is whether floating-point literals are tokens.
 #[tactic(auto, unfolding(crate::specs::Front::token_at))]
-pub fn token_at(at: usize, first: u8, after: &[u8]) -> Result<Token, LexError>
+pub fn token_at(floats: bool, at: usize, first: u8, after: &[u8]) -> Result<Token, LexError>
     requires { at + length after.now + 1 < 2 ^ 64 }
-    ensures { result ≡ token_at at first after.now }
+    ensures { result ≡ token_at floats at first after.now }
 {
     match first {
         b'A'..=b'Z' | b'a'..=b'z' | b'_' => Ok(token(Class::Word, at, 1 + word_bytes(after))),
-        b'0'..=b'9' => Ok(integer(at, first, after)),
-        b'-' => Ok(minus(at, after)),
+        b'0'..=b'9' => Ok(integer(floats, at, first, after)),
+        b'-' => Ok(minus(floats, at, after)),
         b'$' => marked(Class::Register, at, word_bytes(after)),
         b'%' => marked(Class::Percent, at, word_bytes(after)),
         b'!' => metadata(at, after),
@@ -109,24 +109,36 @@ fn hexadecimal(first: u8, after: &[u8]) -> usize
     }
 }
 
-/// The integer that begins with the digit `first`.
-fn integer(at: usize, first: u8, after: &[u8]) -> Token
+/// The decimal number whose first `1 + run` bytes are an integer, where `run` digits are at the front of `after`.
+fn decimal(floats: bool, at: usize, run: usize, after: &[u8]) -> Token
+    requires within { run ≤ length after.now }
+    requires room { at + length after.now + 1 < 2 ^ 64 }
+    ensures { decimal_at floats at (1 + run) (drop run after.now) ≡ Ok result }
+{
+    match fraction(&after[run..]) {
+        len if floats && 0 < len => token(Class::Float, at, 1 + run + len),
+        _ => token(Class::Integer, at, 1 + run),
+    }
+}
+
+/// The number that begins with the digit `first`.
+fn integer(floats: bool, at: usize, first: u8, after: &[u8]) -> Token
     requires { at + length after.now + 1 < 2 ^ 64 }
-    ensures { integer_at at first after.now ≡ Ok result }
+    ensures { integer_at floats at first after.now ≡ Ok result }
 {
     match hexadecimal(first, after) {
-        0 => token(Class::Integer, at, 1 + digits(after)),
+        0 => decimal(floats, at, digits(after), after),
         run => token(Class::Integer, at, 2 + run),
     }
 }
 
 /// The token that begins with the `-` right before `after`.
-fn minus(at: usize, after: &[u8]) -> Token
+fn minus(floats: bool, at: usize, after: &[u8]) -> Token
     requires { at + length after.now + 1 < 2 ^ 64 }
-    ensures { minus_at at after.now ≡ Ok result }
+    ensures { minus_at floats at after.now ≡ Ok result }
 {
     match digits(after) {
         0 => token(Class::Single(b'-'), at, 1),
-        run => token(Class::Integer, at, 1 + run),
+        run => decimal(floats, at, run, after),
     }
 }

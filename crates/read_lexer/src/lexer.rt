@@ -12,16 +12,17 @@ use crate::parts::Tokens;
 use base_list::List;
 use std::alloc::Global;
 
-/// The tokens of a line, from left to right, or its leftmost fault.
-pub fn tokens(alloc: Global, line: &[u8]) -> Result<Tokens, LexError>
+/// The tokens of a line, from left to right, or its leftmost fault. `floats` is whether floating-point literals are
+/// tokens.
+pub fn tokens(alloc: Global, floats: bool, line: &[u8]) -> Result<Tokens, LexError>
     // They are the line's tokens, and the fault is its first one.
-    ensures exact { Gives result (tokens_of line.now) }
+    ensures exact { Gives result (tokens_of floats line.now) }
     // Spans ascend, and only spaces and tabs stand outside them.
     ensures spans { IfOk result (λ ts. AreSpans line.now 0 ts) }
     // A token's text is one of its class, and no longer text at its place is a token.
-    ensures longest { IfOk result (λ ts. AllByRecursion (IsLongest line.now) ts) }
+    ensures longest { IfOk result (λ ts. AllByRecursion (IsLongest floats line.now) ts) }
     // No text that begins at such a byte is a token.
-    ensures bad_byte { (at : ℕ) → IsErrOf result (LexError.BadByte at) → BeginsNothing line.now at }
+    ensures bad_byte { (at : ℕ) → IsErrOf result (LexError.BadByte at) → BeginsNothing floats line.now at }
     // Such a quote opens a text that nothing closes.
     ensures unclosed { (at : ℕ) → IsErrOf result (LexError.UnclosedString at) → IsUnclosed line.now at }
 {
@@ -32,7 +33,7 @@ pub fn tokens(alloc: Global, line: &[u8]) -> Result<Tokens, LexError>
         if is_blank(first) {
             at += 1;
         } else {
-            let token = token_at(at, first, &line[at + 1..])?;
+            let token = token_at(floats, at, first, &line[at + 1..])?;
             tokens.push(token)?;
             at = token.end;
         }

@@ -19,6 +19,9 @@ pub enum Class {
     Symbol,
     /// Digits, after a `-` or not, or `0x` and hexadecimal digits.
     Integer,
+    /// Digits, after a `-` or not, a point and digits, and then `e` and digits or nothing, as `-2.5e+01`: a
+    /// floating-point literal. The digits behind `e` may have a sign.
+    Float,
     /// The bytes between two double quotes or two single quotes, quotes included.
     Text,
     /// One of the bytes `= , ( ) : { } [ ] < > | + -`, where no digit follows a `-`.

@@ -1,10 +1,10 @@
 -- Operands of the linked language that are symbols: a global or a constant of the pool, with a number added to its address, and the half of the address that
 -- is meant. (LLVM, Machine IR (MIR) Format Reference Manual, "Target Flags", "Global Value Operands", "Constant Pool Index Operands".)
 use Rattle.std.specs.Prelude.{zero, suc, ℤ, pos, negsuc, ◌^◌, Bool, true, false, nat_lt, if◌then◌else◌, List, ◌∷◌, Option, Some, None, ℕ}
-use Rattle.rv64_instr.specs.declared.symbol.Symbol.{Symbol}
-use Rattle.rv64_instr.specs.declared.symbol.Symbol.TheVariants.{Global, Constant}
-use Rattle.rv64_instr.specs.declared.symbol.Half.{Half}
-use Rattle.rv64_instr.specs.declared.symbol.Half.TheVariants.{Upper, Lower}
+use Rattle.mir_func.specs.rv64_instr.declared.symbol.Symbol.{Symbol}
+use Rattle.mir_func.specs.rv64_instr.declared.symbol.Symbol.TheVariants.{Global, Constant}
+use Rattle.mir_func.specs.rv64_instr.declared.symbol.Half.{Half}
+use Rattle.mir_func.specs.rv64_instr.declared.symbol.Half.TheVariants.{Upper, Lower}
 use Rattle.read_token.specs.declared.lexeme.Number.{Number}
 use Rattle.read_token.specs.declared.lexeme.Number.TheVariants.{Fits}
 use Rattle.read_token.specs.declared.lexeme.Word.TheVariants as words

@@ -50,6 +50,29 @@ is_listing text = starts_with nat_eq (behind_blanks text) (codes "successors:") 
 abbrev pub code_of : List ℕ → List ℕ
 code_of text = before_memory_operands (before_comment text)
 
+-- the memory operands of a line, with the `::` before them
+abbrev pub memory_operands_of : List ℕ → List ℕ
+memory_operands_of text = drop (min (length (code_of text)) (length (before_comment text))) (before_comment text)
+
+-- whether the bytes stand anywhere in a text
+unfoldable pub stands_in : List ℕ → List ℕ → Bool
+stands_in word [] = false
+stands_in word (b ∷ bs) = if starts_with nat_eq (b ∷ bs) word then true else stands_in word bs
+
+-- whether a memory operand of a line is volatile (LLVM, Machine IR (MIR) Format Reference Manual, "Memory Operands"). Several may stand on one line
+unfoldable pub is_volatile : List ℕ → Bool
+is_volatile text = stands_in (codes "(volatile ") (memory_operands_of text)
+
+-- the parsed line of a volatile access
+abbrev pub volatile_line : BodyLine → BodyLine
+volatile_line (Item form) = Item (record form { volatile = true })
+volatile_line line = line
+
+-- the same, if it has a form
+abbrev pub volatile_read : Result BodyLine FormError → Result BodyLine FormError
+volatile_read (Ok line) = Ok (volatile_line line)
+volatile_read (Err e) = Err e
+
 -- a label of a block, if its number is within the limit; else a label without a number
 abbrev pub label_of : ℕ → BodyLine
 label_of n = if nat_lt n BEYOND then Label (Some n) else Label None
@@ -83,9 +106,17 @@ line_of_tokens linked line (Err (lex.BadByte at)) = Err BadByte
 line_of_tokens linked line (Err (lex.UnclosedString at)) = Err UnclosedString
 line_of_tokens linked line (Err lex.Memory) = Err Memory
 
--- A line of a function's body, parsed, or why it has no form; `linked` is whether the forms of the linked language are read.
+-- A line of a function's body, parsed, or why it has no form; `linked` is whether the forms of the linked language are read, to which volatile accesses
+-- belong.
 unfoldable pub body_line_of : (linked : Bool) → List ℕ → Result BodyLine FormError
-body_line_of linked text = if is_listing text then Ok (listing_of linked text) else line_of_tokens linked (code_of text) (tokens_of (code_of text))
+body_line_of linked text =
+    if is_listing text
+    then Ok (listing_of linked text)
+    else (
+    if linked && is_volatile text
+    then volatile_read (line_of_tokens linked (code_of text) (tokens_of linked (code_of text)))
+    else line_of_tokens linked (code_of text) (tokens_of linked (code_of text))
+    )
 
 -- What a call returns is this result, unless memory ran out.
 abbrev pub Says : Result BodyLine FormError → Result BodyLine FormError → Type 0

@@ -9,8 +9,8 @@ use Rattle.read_token.specs.declared.lexeme.Number.TheVariants.{Wide}
 use Rattle.read_token.specs.declared.lexeme.Lexeme.{Lexeme}
 use Rattle.read_token.specs.declared.lexeme.Lexeme.TheVariants.{Integer}
 use Rattle.read_token.specs.Number.{BEYOND}
-use Rattle.rv64_instr.specs.declared.symbol.Symbol.{Symbol}
-use Rattle.rv64_instr.specs.declared.symbol.Symbol.TheVariants.{Global, Constant}
+use Rattle.mir_func.specs.rv64_instr.declared.symbol.Symbol.{Symbol}
+use Rattle.mir_func.specs.rv64_instr.declared.symbol.Symbol.TheVariants.{Global, Constant}
 use Rattle.read_line.specs.declared.form.RegisterForm.{RegisterForm}
 use Rattle.read_line.specs.declared.form.OperandForm.{OperandForm}
 use Rattle.read_line.specs.declared.form.OperandForm.TheVariants as operands

@@ -102,13 +102,14 @@ operands_of linked line ts = if begins_operand ts then operands_at linked line (
 abbrev pub attributes_of_item : List Lexeme → List Lexeme → Option Attributes
 attributes_of_item tail rest = if begins_operand tail then attributes_behind rest else attributes_alone tail
 
--- the form of an item with these parts
+-- the form of an item with these parts, without memory operands
 abbrev pub item_with : List Lexeme → List RegisterForm → List ℕ → List OperandForm → (no_return : Bool) → Attributes → ItemForm
 item_with ts definitions opcode operands no_return attributes = record {
   definitions = definitions;
   opcode = opcode;
   operands = operands;
   no_return = no_return;
+  volatile = false;
   number = attributes.number;
   loc = attributes.loc;
   exceeds = item_exceeds ts definitions operands attributes;

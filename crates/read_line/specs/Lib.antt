@@ -7,3 +7,6 @@ pub mod Attribute
 pub mod Item
 pub mod Exceeds
 pub mod Body
+pub use Rattle.mir_func.specs as mir_func
+pub use Rattle.read_metadata.specs as read_metadata
+pub use Rattle.read_token.specs as read_token

@@ -1,6 +1,6 @@
 -- One operand, parsed. (LLVM, Machine IR (MIR) Format Reference Manual, "Machine Operands"; LLVM Language Reference, "DIExpression".)
 use Rattle.std.specs.Prelude.{ℕ, ℤ, pos, ◌+◌, ◌/◌, ◌%◌, Bool, false, ◌&&◌, ◌==◌, nat_le, if◌then◌else◌, List, ◌∷◌, Option, Some, None}
-use Rattle.rv64_instr.specs.declared.symbol.Half.{Half}
+use Rattle.mir_func.specs.rv64_instr.declared.symbol.Half.{Half}
 use Rattle.mir_func.specs.Limits.{MAX_PART, MAX_PART_END}
 use Rattle.mir_func.specs.Parts.{Bytes}
 use Rattle.read_token.specs.declared.lexeme.Flag.TheVariants.{Plain}
@@ -117,6 +117,7 @@ mask_at ts = Some (operands.Mask, ts)
 -- a literal behind its type's name, which code doesn't have, or a register mask, from the lexemes after that name, and the rest
 abbrev pub literal_at : List Lexeme → Option (OperandForm × List Lexeme)
 literal_at (lexemes.Integer n ∷ ts) = Some (operands.Literal, ts)
+literal_at (lexemes.Float ∷ ts) = Some (operands.Literal, ts)
 literal_at (lexemes.Word w t ∷ ts) = Some (operands.Literal, ts)
 literal_at ts = mask_at ts
 

@@ -1,7 +1,7 @@
 //! Operands that are symbols with a number added to their address, parsed.
 
 ghost use Rattle.std.specs.Prelude.{◌≡◌, IfOk};
-ghost use Rattle.rv64_instr.specs.declared.symbol.Symbol.{Symbol};
+ghost use Rattle.mir_func.specs.rv64_instr.declared.symbol.Symbol.{Symbol};
 ghost use Rattle.read_line.specs.Read.{Gives};
 ghost use Rattle.read_line.specs.Address.{
   added,
@@ -19,10 +19,10 @@ ghost use Rattle.read_line.specs.Address.{
 };
 
 use crate::form::{AddressForm, OperandForm};
+use mir_func::rv64_instr_crate::name::Name;
+use mir_func::rv64_instr_crate::symbol::{Half, Symbol};
 use read_token::lexeme::{Lexeme, Number, Word};
 use read_token::symbol::symbol_name;
-use rv64_instr::name::Name;
-use rv64_instr::symbol::{Half, Symbol};
 use std::alloc::{AllocError, Global};
 
 /// What is written behind a symbol: nothing, or a number, which is `None` if it doesn't fit 32 bits signed.

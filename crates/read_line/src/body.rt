@@ -1,8 +1,9 @@
 //! One line of a function's body, parsed.
 
-ghost use Rattle.std.specs.Prelude.{◌≡◌, ◌≤◌, ◌&&◌, length};
+ghost use Rattle.std.specs.Prelude.{◌≡◌, ◌≤◌, ◌&&◌, codes, drop, length, min};
 ghost use Rattle.std.specs.List.{prefix_len};
 ghost use Rattle.read_lexer.specs.Bytes.{is_blank};
+ghost use Rattle.read_lexer.specs.Line.{tokens_of};
 ghost use Rattle.read_line.specs.Body.{
   behind_blanks,
   is_nothing,
@@ -15,6 +16,9 @@ ghost use Rattle.read_line.specs.Body.{
   is_colon,
   labelled,
   sentence_of,
+  line_of_tokens,
+  stands_in,
+  volatile_line,
   body_line_of,
   Says,
 };
@@ -142,15 +146,27 @@ fn sentence(
 
 /// A line of a function's body, parsed; `linked` is whether the forms of the linked language are read. The errors are
 /// `BadByte` and `UnclosedString` for a lexical fault, `BadLine` for lexemes that are no line, and `Memory`.
-#[tactic(auto, unfolding(crate::specs::Body::body_line_of))]
+#[tactic(auto, unfolding(crate::specs::Body::body_line_of, crate::specs::Body::is_volatile))]
 pub fn body_line(alloc: Global, linked: bool, text: &[u8]) -> Result<BodyLine, FormError>
     ensures { Says result (body_line_of linked text.now) }
 {
     if is_listing(text) {
         return Ok(listing(linked, text));
     }
-    let line = before_memory_operands(before_comment(text));
-    match tokens(alloc, line) {
+    let line = before_comment(text);
+    let code = before_memory_operands(line);
+    if linked && is_volatile(line, code) {
+        Ok(volatile_line(lexed(alloc, linked, code)?))
+    } else {
+        lexed(alloc, linked, code)
+    }
+}
+
+/// The parsed line of these bytes, which have no comment and no memory operands.
+fn lexed(alloc: Global, linked: bool, line: &[u8]) -> Result<BodyLine, FormError>
+    ensures { Says result (line_of_tokens linked line.now (tokens_of linked line.now)) }
+{
+    match tokens(alloc, linked, line) {
         Ok(tokens) => {
             let lexemes = lexemes(alloc, line, tokens.as_slice())?;
             sentence(alloc, linked, line, lexemes.as_slice())
@@ -158,5 +174,50 @@ pub fn body_line(alloc: Global, linked: bool, text: &[u8]) -> Result<BodyLine, F
         Err(LexError::BadByte(_)) => Err(FormError::BadByte),
         Err(LexError::UnclosedString(_)) => Err(FormError::UnclosedString),
         Err(LexError::Memory) => Err(FormError::Memory),
+    }
+}
+
+/// The memory operands of a line, with the `::` before them: the bytes of the line, which has no comment, behind its code.
+fn memory_operands<'a>(line: &'a [u8], code: &[u8]) -> &'a [u8]
+    ensures { result.now ≡ drop (min (length code.now) (length line.now)) line.now }
+{
+    &line[code.len().min(line.len())..]
+}
+
+/// Whether the bytes stand anywhere in a text.
+#[tactic(auto, unfolding(crate::specs::Body::stands_in))]
+fn stands_in(word: &[u8], text: &[u8]) -> bool
+    ensures { result ≡ stands_in word.now text.now }
+{
+    let mut rest = text;
+    while let [_, behind @ ..] = rest {
+        if rest.starts_with(word) {
+            return true;
+        }
+        rest = behind;
+    }
+    false
+}
+
+/// Whether a memory operand behind the code of a line is volatile.
+fn is_volatile(line: &[u8], code: &[u8]) -> bool
+    ensures { result ≡ stands_in (codes "(volatile ") (drop (min (length code.now) (length line.now)) line.now) }
+{
+    stands_in(b"(volatile ", memory_operands(line, code))
+}
+
+/// The parsed line of a volatile access.
+fn volatile_line(line: BodyLine) -> BodyLine
+    ensures { result ≡ volatile_line line }
+{
+    match line {
+        BodyLine::Item(form) => {
+            let mut form = form;
+            form.volatile = true;
+            BodyLine::Item(form)
+        }
+        BodyLine::Passed => BodyLine::Passed,
+        BodyLine::Closed => BodyLine::Closed,
+        BodyLine::Label(label) => BodyLine::Label(label),
     }
 }

@@ -19,8 +19,8 @@ use crate::attribute::Attributes;
 use crate::form::{Definitions, OperandForm, OperandForms, RegisterForm};
 use base_ids::metadata::NodeId;
 use mir_func::location::Loc;
+use mir_func::rv64_instr_crate::symbol::Symbol;
 use read_token::lexeme::{BEYOND, Lexeme, Number, RegisterName};
-use rv64_instr::symbol::Symbol;
 
 /// Whether a number is above 2^30 - 1.
 fn is_beyond(n: u32) -> bool

@@ -5,10 +5,10 @@ use base_ids::metadata::NodeId;
 use base_list::List;
 use mir_func::debug_substitution::OperandPair;
 use mir_func::location::Loc;
+use mir_func::rv64_instr_crate::name::Name;
+use mir_func::rv64_instr_crate::symbol::{Half, Symbol};
 use mir_func::variable::Fragment;
 use read_token::lexeme::{Flag, RegisterName};
-use rv64_instr::name::Name;
-use rv64_instr::symbol::{Half, Symbol};
 use std::alloc::AllocError;
 use thiserror::Error;
 
@@ -95,6 +95,9 @@ pub struct ItemForm {
     pub operands: OperandForms,
     /// Whether the word `noreturn` stands before the opcode.
     pub no_return: bool,
+    /// Whether a memory operand of the line is volatile: `(volatile ` stands behind its `::`. It counts in the linked
+    /// language alone.
+    pub volatile: bool,
     /// The number after `debug-instr-number`.
     pub number: Option<DebugNumber>,
     /// The location after `debug-location`.

@@ -29,10 +29,10 @@ use crate::front::{behind_comma, behind_equals};
 use crate::operand::operand;
 use crate::register::{begins_register, register};
 use base_list::List;
+use mir_func::rv64_instr_crate::name::Name;
 use read_lexer::parts::Token;
 use read_token::lexeme::{Lexeme, Word};
 use read_token::sentence::text_of;
-use rv64_instr::name::Name;
 use std::alloc::{AllocError, Global};
 
 /// Registers up to an equals sign, and the rest after it.
@@ -249,7 +249,7 @@ fn defined_item(
     }
 }
 
-/// The form of an item with these parts.
+/// The form of an item with these parts, without memory operands.
 fn item_with(
     lexemes: &[Lexeme],
     definitions: Definitions,
@@ -267,6 +267,7 @@ fn item_with(
         opcode,
         operands,
         no_return,
+        volatile: false,
         number,
         loc,
         exceeds,

@@ -6,6 +6,10 @@
 //! exist, isn't checked here. (LLVM, Machine IR (MIR) Format Reference Manual, "Machine Instructions".)
 #![tactic(auto)]
 
+pub use mir_func as mir_func_crate;
+pub use read_metadata as read_metadata_crate;
+pub use read_token as read_token_crate;
+
 mod address;
 mod attribute;
 pub mod body;

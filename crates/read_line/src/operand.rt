@@ -32,10 +32,10 @@ use crate::front::behind_bracket;
 use crate::register::register;
 use base_ids::function_ids::{DebugNumber, OperandIndex};
 use mir_func::debug_substitution::OperandPair;
+use mir_func::rv64_instr_crate::symbol::Half;
 use mir_func::variable::Fragment;
 use read_token::lexeme::{BEYOND, Lexeme, Number, Word};
 use read_token::symbol::symbol_name;
-use rv64_instr::symbol::Half;
 use std::alloc::{AllocError, Global};
 
 /// An integer that is a number or count; `BEYOND` if it is negative or above the limit.
@@ -248,7 +248,10 @@ fn literal(lexemes: &[Lexeme]) -> Option<(OperandForm, &[Lexeme])>
     ensures { Gives (λ x. (x.0, x.1.now)) result (literal_at lexemes.now) }
 {
     match lexemes {
-        [Lexeme::Integer(_) | Lexeme::Word(_, _), rest @ ..] => Some((OperandForm::Literal, rest)),
+        [
+            Lexeme::Integer(_) | Lexeme::Float | Lexeme::Word(_, _),
+            rest @ ..,
+        ] => { Some((OperandForm::Literal, rest)) }
         _ => mask(lexemes),
     }
 }

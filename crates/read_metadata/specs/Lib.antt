@@ -8,3 +8,4 @@ pub mod Line
 pub mod Definition
 pub mod Maps
 pub mod Metadata
+pub use Rattle.read_lexer.specs as read_lexer

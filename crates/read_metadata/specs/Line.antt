@@ -1,5 +1,5 @@
 -- The node that a line defines: `!N = !KIND(..)` or `!N = distinct !KIND(..)`.
-use Rattle.std.specs.Prelude.{ℕ, Bool, ◌&&◌, ◌==◌, if◌then◌else◌, codes, drop, List, [], ◌∷◌, Option, Some, None, Result, Ok, Err}
+use Rattle.std.specs.Prelude.{false, ℕ, Bool, ◌&&◌, ◌==◌, if◌then◌else◌, codes, drop, List, [], ◌∷◌, Option, Some, None, Result, Ok, Err}
 use Rattle.std.specs.List.{prefix_len}
 use Rattle.std.specs.Str.{bytes_eq}
 use Rattle.read_lexer.specs.declared.fault.LexError.{LexError}
@@ -58,4 +58,4 @@ node_of_tokens line (Err e) = None
 -- The node with its number that a line defines. The line has no spaces at the front, so it begins with `!`.
 unfoldable pub node_of_line : List ℕ → Option (ℕ × Node)
 node_of_line [] = None
-node_of_line (b ∷ bs) = if b == 33 then node_of_tokens (b ∷ bs) (tokens_of (b ∷ bs)) else None
+node_of_line (b ∷ bs) = if b == 33 then node_of_tokens (b ∷ bs) (tokens_of false (b ∷ bs)) else None

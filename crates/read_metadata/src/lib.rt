@@ -7,6 +7,9 @@
 //! "Metadata" and "Specialized Metadata Nodes".)
 #![tactic(auto)]
 
+pub use read_lexer as read_lexer_crate;
+pub use rv64_instr as rv64_instr_crate;
+
 mod definition;
 mod encoding;
 mod field;

@@ -102,7 +102,7 @@ pub fn node_of_line(alloc: Global, line: &[u8]) -> Result<Option<(NodeId, Node)>
     ensures { IfOk result (λ node. node ≡ node_of_line line.now) }
 {
     match line {
-        [b'!', ..] => match tokens(alloc, line) {
+        [b'!', ..] => match tokens(alloc, false, line) {
             Ok(tokens) => assigned(alloc, line, tokens.as_slice()),
             Err(LexError::Memory) => Err(AllocError),
             Err(_) => Ok(None),

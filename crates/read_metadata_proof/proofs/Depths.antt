@@ -3,7 +3,7 @@ use Rattle.std.proofs.Common.{◌≡◌, inl, inr, ℕ, zero, suc, ◌+◌, ◌-
 use Rattle.std.proofs.Common.{refl, sym, ap, subst, ◌∙◌, arith, append_assoc, add-one, sub-one, length-append}
 use Rattle.std.proofs.lemmas.Bool.{cases_Bool, or_parts, or_cases, or_from, ne_eqb, eqb-true, true≢false, false≢true}
 use Rattle.read_lexer.specs.declared.parts.Class.{Class}
-use Rattle.read_lexer.specs.declared.parts.Class.TheVariants.{Word, Register, Percent, Node, Kind, Symbol, Integer, Text, Single}
+use Rattle.read_lexer.specs.declared.parts.Class.TheVariants.{Word, Register, Percent, Node, Kind, Symbol, Float, Integer, Text, Single}
 use Rattle.read_lexer.specs.declared.parts.Token.{Token}
 use Rattle.read_metadata.specs.Token.{is_byte, is_word, is_single_class, is_word_class}
 use Rattle.read_metadata.specs.Field.{opens, closes, ends_piece, depth_behind}
@@ -24,6 +24,7 @@ by_class Percent e = absurd (false≢true e)
 by_class Node e = absurd (false≢true e)
 by_class Kind e = absurd (false≢true e)
 by_class Symbol e = absurd (false≢true e)
+by_class Float e = absurd (false≢true e)
 by_class Integer e = absurd (false≢true e)
 by_class Text e = absurd (false≢true e)
 by_class (Single b) e = elim (or_cases (b == 41) (b == 93 || b == 125) e) [
@@ -45,6 +46,7 @@ word_class Percent e n = refl
 word_class Node e n = refl
 word_class Kind e n = refl
 word_class Symbol e n = refl
+word_class Float e n = refl
 word_class Integer e n = refl
 word_class Text e n = refl
 word_class (Single b) e n = absurd (false≢true e)
@@ -108,6 +110,7 @@ comma_opens t e = by_open t.class e where
   by_open Node e = absurd (false≢true e)
   by_open Kind e = absurd (false≢true e)
   by_open Symbol e = absurd (false≢true e)
+  by_open Float e = absurd (false≢true e)
   by_open Integer e = absurd (false≢true e)
   by_open Text e = absurd (false≢true e)
   by_open (Single b) e = elim (or_cases (b == 40) (b == 91 || b == 123) e) [
@@ -219,6 +222,7 @@ colon_class Percent e = absurd (false≢true e)
 colon_class Node e = absurd (false≢true e)
 colon_class Kind e = absurd (false≢true e)
 colon_class Symbol e = absurd (false≢true e)
+colon_class Float e = absurd (false≢true e)
 colon_class Integer e = absurd (false≢true e)
 colon_class Text e = absurd (false≢true e)
 colon_class (Single b) e = subst (λ (n : ℕ). ((n == 44) ≡ false) × ((n == 40 || (n == 91 || n == 123)) ≡ false) × ((n == 41 || (n == 93 || n == 125)) ≡ false))

@@ -3,7 +3,7 @@ use Rattle.std.proofs.Common.{◌≡◌, ◌⊎◌, inl, inr, ℕ, ◌==◌, ◌
 use Rattle.std.proofs.Common.{refl, sym, ap, subst, ◌∙◌}
 use Rattle.std.proofs.lemmas.Bool.{cases_Bool, and_parts, and_from, eqb-true, true≢false, false≢true}
 use Rattle.read_lexer.specs.declared.parts.Class.{Class}
-use Rattle.read_lexer.specs.declared.parts.Class.TheVariants.{Word, Register, Percent, Node, Kind, Symbol, Integer, Text, Single}
+use Rattle.read_lexer.specs.declared.parts.Class.TheVariants.{Word, Register, Percent, Node, Kind, Symbol, Float, Integer, Text, Single}
 use Rattle.read_lexer.specs.declared.parts.Token.{Token}
 use Rattle.read_metadata.specs.declared.field.Field.{Field}
 use Rattle.read_metadata.specs.Token.{is_byte, is_word, is_single_class}
@@ -136,6 +136,7 @@ closing_class Percent e = absurd (false≢true e)
 closing_class Node e = absurd (false≢true e)
 closing_class Kind e = absurd (false≢true e)
 closing_class Symbol e = absurd (false≢true e)
+closing_class Float e = absurd (false≢true e)
 closing_class Integer e = absurd (false≢true e)
 closing_class Text e = absurd (false≢true e)
 closing_class (Single b) e = subst (λ (n : ℕ). (n == 44) ≡ false) (sym (eqb-true b 41 e)) refl

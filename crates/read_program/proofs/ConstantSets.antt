@@ -1,5 +1,6 @@
 -- The numbers of constants in a set: the code that is asked of the set is that which is asked of their list.
-use Rattle.std.proofs.Common.{◌≡◌, ℕ, ◌+◌, ◌<◌, ◌≤◌, Bool, ◌||◌, eqb, nat_eq, List, length, get_or, take, refl, sym, ap, ◌∙◌}
+use Rattle.std.proofs.Common.{◌≡◌, ℕ, ◌+◌, ◌<◌, ◌≤◌, Bool, ◌||◌, eqb, nat_eq, List, [], ◌∷◌, length, get_or, take}
+use Rattle.std.proofs.Common.{refl, sym, ap, ◌∙◌}
 use Rattle.std.specs.List.{list_all, list_any}
 use Rattle.std.proofs.lemmas.List.{take_all}
 use Rattle.std.proofs.lemmas.List.Folds.{list_any_more}
@@ -10,21 +11,32 @@ use Rattle.rv64_instr.specs.declared.symbol.Symbol.TheVariants.{Global, Constant
 use Rattle.mir_func.specs.declared.block.Block.{Block}
 use Rattle.mir_func.specs.declared.item.ItemKind.{ItemKind}
 use Rattle.mir_func.specs.declared.item.ItemKind.TheVariants.{Code, Mark, Phi}
+use Rattle.mir_pool.specs.declared.constant.PoolConstant.{PoolConstant}
+use Rattle.mir_pool.specs.Pool.{constant_ids}
 use Rattle.read_body.specs.FirstUseOrder.{is_met, met}
 use Rattle.read_program.specs.Pool.{is_symbol_known, is_operand_known, is_kind_known, are_known}
 use Rattle.read_program.proofs.Entries.{met_is, eqb_turned}
 
 -- ---- the set of the numbers
 
-pub set_more : (ids set : List ℕ) (k : ℕ) → k < length ids → ((n : ℕ) → is_met n set ≡ list_any (nat_eq n) (take k ids)) → (n : ℕ) →
-    is_met n (met (get_or ids k 0) set) ≡ list_any (nat_eq n) (take (k + 1) ids)
-set_more ids set k lt so_far n =
-    met_is n (get_or ids k 0) set ∙ ap (λ (b : Bool). b || eqb (get_or ids k 0) n) (so_far n)
-    ∙ ap (λ (b : Bool). list_any (nat_eq n) (take k ids) || b) (eqb_turned (get_or ids k 0) n) ∙ sym (list_any_more (nat_eq n) ids k 0 lt)
+-- a number is one of those of constants exactly if a constant has it
+any_id : (n : ℕ) (cs : List PoolConstant) → list_any (nat_eq n) (constant_ids cs) ≡ list_any (λ (c : PoolConstant). nat_eq n c.id) cs
+any_id n [] = refl
+any_id n (c ∷ cs) = ap (λ (b : Bool). nat_eq n c.id || b) (any_id n cs)
 
-pub set_all : (ids set : List ℕ) (k : ℕ) → length ids ≤ k → ((n : ℕ) → is_met n set ≡ list_any (nat_eq n) (take k ids)) → (n : ℕ) →
-    is_met n set ≡ list_any (nat_eq n) ids
-set_all ids set k all so_far n = so_far n ∙ ap (list_any (nat_eq n)) (take_all k ids all)
+pub set_more : (cs : List PoolConstant) (set : List ℕ) (k : ℕ) (none : PoolConstant) → k < length cs →
+    ((n : ℕ) → is_met n set ≡ list_any (nat_eq n) (constant_ids (take k cs))) → (n : ℕ) →
+    is_met n (met (get_or cs k none).id set) ≡ list_any (nat_eq n) (constant_ids (take (k + 1) cs))
+set_more cs set k none lt so_far n =
+    let id = (get_or cs k none).id in
+    met_is n id set ∙ ap (λ (b : Bool). b || eqb id n) (so_far n ∙ any_id n (take k cs))
+    ∙ ap (λ (b : Bool). list_any (λ (x : PoolConstant). nat_eq n x.id) (take k cs) || b) (eqb_turned id n)
+    ∙ sym (list_any_more (λ (x : PoolConstant). nat_eq n x.id) cs k none lt)
+    ∙ sym (any_id n (take (k + 1) cs))
+
+pub set_all : (cs : List PoolConstant) (set : List ℕ) (k : ℕ) → length cs ≤ k →
+    ((n : ℕ) → is_met n set ≡ list_any (nat_eq n) (constant_ids (take k cs))) → (n : ℕ) → is_met n set ≡ list_any (nat_eq n) (constant_ids cs)
+set_all cs set k all so_far n = so_far n ∙ ap (λ (l : List PoolConstant). list_any (nat_eq n) (constant_ids l)) (take_all k cs all)
 
 -- ---- lists with the same numbers
 

@@ -6,7 +6,7 @@ use Rattle.std.proofs.lemmas.Bool.{cases_Bool, and_parts, or_cases, or_left, or_
 use Rattle.std.proofs.lemmas.List.Folds.{list_any-append}
 use Rattle.mir_func.specs.declared.object.Object.{Object}
 use Rattle.mir_func.specs.Objects.{object_of}
-use Rattle.read_declarations.specs.declared.stack.StackEntry.{StackEntry}
+use Rattle.read_body.specs.read_declarations.declared.stack.StackEntry.{StackEntry}
 use Rattle.read_body.specs.declared.stack_entry_kind.ObjectLayout.{ObjectLayout}
 use Rattle.read_body.specs.FirstUseOrder.{is_met, met}
 use Rattle.read_body.specs.Closing.{all_met}

@@ -35,7 +35,7 @@ use Rattle.read_line.specs.declared.form.OperandForm.TheVariants as operands
 use Rattle.read_line.specs.declared.form.RegisterForm.{RegisterForm}
 use Rattle.read_line.specs.Address.{addend_at, addend_or_zero, address_form, address_behind, address_at, half_of}
 use Rattle.read_line.specs.Body.{closes_block, listing_of, is_listing, code_of, label_of, is_colon, labelled, as_item, sentence_of, line_of_tokens}
-use Rattle.read_line.specs.Body.{body_line_of}
+use Rattle.read_line.specs.Body.{is_volatile, volatile_read, body_line_of}
 use Rattle.read_line.specs.Bracket.{inner_behind, behind_bracket}
 use Rattle.read_line.specs.Exceeds.{item_exceeds}
 use Rattle.read_line.specs.Item.{before, with_equals, definitions_at, definitions_of, is_lower, behind_words, opcode_at, behind_operand, operands_at}
@@ -273,6 +273,7 @@ mask_fits linked ts read e fit = reads linked operands.Mask ts read e tt fit
 
 literal_fits : (linked : Bool) (ts : List Lexeme) (read : OperandForm × List Lexeme) → literal_at ts ≡ Some read → AllFit ts → ReadsOperand linked read
 literal_fits linked (lexemes.Integer n ∷ ts) read e fit = reads linked operands.Literal ts read e tt fit.1
+literal_fits linked (lexemes.Float ∷ ts) read e fit = reads linked operands.Literal ts read e tt fit.1
 literal_fits linked (lexemes.Word w t ∷ ts) read e fit = reads linked operands.Literal ts read e tt fit.1
 literal_fits linked ts read e fit = mask_fits linked ts read e fit
 
@@ -367,6 +368,10 @@ pub record ItemFits (linked : Bool) (form : ItemForm) : Type 0 where
   pub operands : AllOf (FormFits linked) form.operands
   pub lexemes : List Lexeme
   pub exceeds : form.exceeds ≡ item_exceeds lexemes form.definitions form.operands (record { number = form.number; loc = form.loc })
+  pub volatile : form.volatile ≡ true → linked ≡ true
+
+never : (linked : Bool) → false ≡ true → linked ≡ true
+never linked e = cc
 
 one_rest : (b : Bool) (x y : List Lexeme) → AllFit x → AllFit y → AllFit (cond b x y)
 one_rest true x y p q = p
@@ -413,6 +418,7 @@ defined_fits linked line ts ds rest form e fits fit =
       operands = operands_fit linked line opcode.0.1 os.0 os.1 (opcode_fits (behind_words rest) opcode.0 opcode.1 (words_fit rest fit));
       lexemes = ts;
       exceeds = refl;
+      volatile = never linked;
     })
 
 item_fits : (linked : Bool) (line : List ℕ) (ts : List Lexeme) (form : ItemForm) → item_of linked line ts ≡ Some form → AllFit ts → ItemFits linked form
@@ -464,9 +470,34 @@ pub listing_no_item : (b : Bool) (form : ItemForm) → ◌≡◌ {A = Result Bod
 listing_no_item true form e = cc
 listing_no_item false form e = cc
 
+-- the form of a volatile access
+volatile_fits : (linked : Bool) → linked ≡ true → (read : Result BodyLine FormError) → ((f : ItemForm) → read ≡ Ok (Item f) → ItemFits linked f) →
+    (form : ItemForm) → volatile_read read ≡ Ok (Item form) → ItemFits linked form
+volatile_fits linked is (Ok (Item f)) fits form e =
+    let same : record f { volatile = true } ≡ form = cc in
+    let h = fits f refl in
+    subst (ItemFits linked) same (record {
+      definitions = h.definitions;
+      operands = h.operands;
+      lexemes = h.lexemes;
+      exceeds = h.exceeds;
+      volatile = λ v. is;
+    })
+volatile_fits linked is (Ok Passed) fits form e = absurd cc
+volatile_fits linked is (Ok Closed) fits form e = absurd cc
+volatile_fits linked is (Ok (Label n)) fits form e = absurd cc
+volatile_fits linked is (Err refusal) fits form e = absurd cc
+
 -- the form of an item's line
 pub line_fits : (linked : Bool) (text : List ℕ) (form : ItemForm) → body_line_of linked text ≡ Ok (Item form) → ItemFits linked form
 unfolding body_line_of
-line_fits linked text form e = tokens_fit linked (code_of text) (tokens_of (code_of text)) form
-    (if_ok (is_listing text) (Ok (listing_of linked text)) (line_of_tokens linked (code_of text) (tokens_of (code_of text))) (Ok (Item form)) e
-    (listing_no_item (linked && closes_block text) form))
+line_fits linked text form e = by (linked && is_volatile text) refl
+    (if_ok (is_listing text) (Ok (listing_of linked text)) (cond (linked && is_volatile text) (volatile_read read) read) (Ok (Item form)) e
+    (listing_no_item (linked && closes_block text) form)) where
+      read : Result BodyLine FormError
+      read = line_of_tokens linked (code_of text) (tokens_of linked (code_of text))
+
+      by : (b : Bool) → (linked && is_volatile text) ≡ b → cond b (volatile_read read) read ≡ Ok (Item form) → ItemFits linked form
+      by true is fits = volatile_fits linked (and_parts linked (is_volatile text) is).0 read (tokens_fit linked (code_of text) (tokens_of linked (code_of text)))
+          form fits
+      by false is fits = tokens_fit linked (code_of text) (tokens_of linked (code_of text)) form fits

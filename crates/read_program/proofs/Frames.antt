@@ -13,8 +13,8 @@ use Rattle.mir_func.specs.Objects.{AreLaidFrom, AreLaid, IsPlaced, end_past, are
 use Rattle.mir_func.specs.Sound.{AreApart, IsSoundObject}
 use Rattle.mir_func.proofs.Fixed.{none_fixed}
 use Rattle.mir_func.proofs.Once.{apart_head, apart_tail}
-use Rattle.read_declarations.specs.declared.stack.StackEntry.{StackEntry}
-use Rattle.read_declarations.specs.Stack.{is_alignment, entry_offsets}
+use Rattle.read_body.specs.read_declarations.declared.stack.StackEntry.{StackEntry}
+use Rattle.read_body.specs.read_declarations.Stack.{is_alignment, entry_offsets}
 use Rattle.read_body.specs.declared.stack_entry_kind.ObjectLayout.{ObjectLayout}
 use Rattle.read_body.specs.FirstUseOrder.{is_met, met}
 use Rattle.read_body.specs.StackEntryKind.{is_stack_object, with_slot, slots_behind, slots_of, laid_at}

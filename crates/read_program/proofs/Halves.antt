@@ -7,7 +7,7 @@ use Rattle.rv64_instr.specs.declared.op.Op.{Op}
 use Rattle.rv64_instr.specs.declared.op.Op.TheVariants.{Immediate, Lui}
 use Rattle.rv64_instr.specs.declared.op.ImmediateOp.TheVariants.{Addi}
 use Rattle.rv64_instr.specs.declared.operand.Operand.{Operand}
-use Rattle.rv64_instr.specs.declared.operand.Operand.TheVariants.{Def, Use, Slot, Object, Part, Outgoing}
+use Rattle.rv64_instr.specs.declared.operand.Operand.TheVariants.{Def, Use, Slot, Object, Part, Outgoing, GlobalRegisters}
 use Rattle.rv64_instr.specs.declared.symbol.Half.TheVariants.{Upper, Lower}
 use Rattle.rv64_instr.specs.Form.{is_implicit, has_form}
 use Rattle.rv64_instr.specs.Instruction.{Instruction}
@@ -23,11 +23,12 @@ pub record IsReadCode (linked : Bool) (entries : List ℕ) (i : Instruction) : T
   pub named : All (NamesAmong entries) i.operands
   pub pointer : All IsNotPointer i.operands
   pub read : is_read linked i.op ≡ true
+  pub plain : i.volatile ≡ false
 
-pub formed_some : (op : Op) (os : List Operand) (i : Instruction) → formed op os ≡ Some i → (record { op = op; operands = os } ≡ i) × (has_form op os ≡ true)
+pub formed_some : (op : Op) (os : List Operand) (i : Instruction) → formed op os ≡ Some i → (record { op = op; operands = os; volatile = false } ≡ i) × (has_form op os ≡ true)
 formed_some op os i e = by (has_form op os) refl e where
-  by : (b : Bool) → has_form op os ≡ b → cond b (Some (record { op = op; operands = os })) None ≡ Some i →
-      (record { op = op; operands = os } ≡ i) × (has_form op os ≡ true)
+  by : (b : Bool) → has_form op os ≡ b → cond b (Some (record { op = op; operands = os; volatile = false })) None ≡ Some i →
+      (record { op = op; operands = os; volatile = false } ≡ i) × (has_form op os ≡ true)
   by true is e = (cc, is)
   by false is e = absurd cc
 
@@ -42,6 +43,7 @@ implicit_names : (entries : List ℕ) (o : Operand) → is_implicit o ≡ true �
 implicit_names entries (Slot n) e = absurd cc
 implicit_names entries (Object n) e = absurd cc
 implicit_names entries (Outgoing n) e = absurd cc
+implicit_names entries GlobalRegisters e = absurd cc
 implicit_names entries o e = tt
 
 implicits_name : (entries : List ℕ) (os : List Operand) → list_all is_implicit os ≡ true → All (NamesAmong entries) os
@@ -99,6 +101,7 @@ module _ (linked : Bool) (entries others : List ℕ) where
               named = All-cons Names (Def rd) (Part Upper y ∷ []) tt (All-cons Names (Part Upper y) [] tt (All-nil Names));
               pointer = All-cons IsNotPointer (Def rd) (Part Upper y ∷ []) set'.pointer (All-cons IsNotPointer (Part Upper y) [] tt (All-nil IsNotPointer));
               read = refl;
+              plain = refl;
             }),
             subst (IsReadCode linked entries) other.0 (record {
               form = other.1;
@@ -109,6 +112,7 @@ module _ (linked : Bool) (entries others : List ℕ) where
               pointer = All-cons IsNotPointer (Def rd) (Use rd ∷ Part Lower z ∷ rest) set'.pointer
                   (All-cons IsNotPointer (Use rd) (Part Lower z ∷ rest) set'.pointer rest_pointer);
               read = refl;
+              plain = refl;
             }),
           )
   halves_read os p all e = absurd cc

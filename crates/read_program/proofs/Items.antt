@@ -3,7 +3,7 @@ use Rattle.std.proofs.Common.{◌≡◌, ℕ, ℤ, pos, negsuc, zero, suc, ◌+�
 use Rattle.std.proofs.Common.{refl, sym, ap, subst, ◌∙◌, arith}
 use Rattle.std.specs.List.{list_any}
 use Rattle.std.specs.Prelude.{IfSome}
-use Rattle.std.proofs.lemmas.Bool.{or_parts, leb-true, ltb-true, eqb-false}
+use Rattle.std.proofs.lemmas.Bool.{or_parts, leb-true, ltb-true, eqb-false, false≢true}
 use Rattle.std.proofs.lemmas.List.Elements.{All-weaker}
 use Rattle.rv64_instr.specs.declared.op.Op.{Op}
 use Rattle.rv64_instr.specs.declared.operand.Operand.{Operand}
@@ -331,6 +331,7 @@ code_reads linked meta entries loc op line instr fits may is met =
       language = (
         All-weaker (IsReadOperand linked entries) (IsOperandOf linked) (λ o r. language_in linked o r.limited) instr.operands all,
         ap (is_read linked) is.op_is ∙ may,
+        λ e. fits.volatile (is.volatile e),
       );
       inlined = tt;
       named = All-weaker (IsReadOperand linked entries) (NamesAmong entries) (λ o r. r.named) instr.operands all;
@@ -398,7 +399,7 @@ code_kind : (linked : Bool) (meta : Maps) (entries : List ℕ) (loc : Loc) (i : 
 code_kind linked meta entries loc i k is small = record {
   form = is.form;
   limited = (All-weaker (IsLimitedIn linked) IsLimited (limited_in linked) i.operands is.limited, small);
-  language = (All-weaker (IsLimitedIn linked) (IsOperandOf linked) (language_in linked) i.operands is.limited, is.read);
+  language = (All-weaker (IsLimitedIn linked) (IsOperandOf linked) (language_in linked) i.operands is.limited, is.read, λ e. absurd (false≢true (sym is.plain ∙ e)));
   inlined = tt;
   named = is.named;
   pointer = is.pointer;

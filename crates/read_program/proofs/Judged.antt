@@ -9,7 +9,7 @@ use Rattle.read_refusal.specs.declared.kind.RefusalKind.TheVariants as kinds
 use Rattle.rv64_instr.specs.declared.op.Op.{Op}
 use Rattle.rv64_instr.specs.declared.operand.Operand.{Operand}
 use Rattle.rv64_instr.specs.Form.{has_form}
-use Rattle.rv64_instr.specs.Instruction.{Instruction}
+use Rattle.rv64_instr.specs.Instruction.{Instruction, is_load}
 use Rattle.read_metadata.specs.Maps.{Maps}
 use Rattle.mir_func.specs.declared.item.ItemKind.{ItemKind}
 use Rattle.mir_func.specs.declared.item.ItemKind.TheVariants.{Code}
@@ -22,8 +22,8 @@ use Rattle.read_item.specs.declared.opcode.Opcode.TheVariants as opcodes
 use Rattle.read_item.specs.Opcode.{opcode_of, returning, is_read}
 use Rattle.read_item.specs.Address.{address_operands, halves_in, address_rules, halves_unless, address_of}
 use Rattle.read_item.specs.Code.{refusal_by, operands_of, places_of, fits, is_refused_virtual, is_refused_operand, is_pointer, is_pointer_operand}
-use Rattle.read_item.specs.Code.{has_register_callee, begins_with_virtual, names_refused}
-use Rattle.read_item.specs.Code.{is_misplaced, is_long, code_rules}
+use Rattle.read_item.specs.Code.{has_implicit_callee, begins_with_virtual, names_refused}
+use Rattle.read_item.specs.Code.{is_misplaced, is_long, has_half_of_fixed, code_rules}
 use Rattle.read_item.specs.Code.{instruction, unless_refused, code_of}
 use Rattle.read_item.specs.Debug.{debug_kind, is_empty, debug_rules, kind_unless, debug_of}
 use Rattle.read_item.specs.declared.judged.Judged.{Judged}
@@ -61,9 +61,10 @@ pub record IsCodeLine (op : Op) (line : ItemForm) (instr : Instruction) : Type 0
   pub used_others : list_any is_pointer_operand line.operands ≡ false
   pub in_place : list_any is_misplaced (zip (places_of op line) line.operands) ≡ false
   pub short : is_long line ≡ false
+  pub volatile : instr.volatile ≡ true → line.volatile ≡ true
 
 code_line_by : (op : Op) (line : ItemForm) (instr : Instruction) (operands : Option (List Operand)) → operands_of op line ≡ operands → fits op operands ≡ true →
-    instruction op operands ≡ instr → line.exceeds ≡ false →
+    instruction op line.volatile operands ≡ instr → line.exceeds ≡ false →
     (list_any is_refused_virtual line.definitions || list_any is_refused_operand line.operands) ≡ false →
     (list_any is_pointer line.definitions || list_any is_pointer_operand line.operands) ≡ false →
     list_any is_misplaced (zip (places_of op line) line.operands) ≡ false → is_long line ≡ false → IsCodeLine op line instr
@@ -79,6 +80,7 @@ code_line_by op line instr (Some os) is fit made within known others in_place sh
   used_others = (or_parts (list_any is_pointer line.definitions) (list_any is_pointer_operand line.operands) others).1;
   in_place = in_place;
   short = short;
+  volatile = λ e. (and_parts line.volatile (is_load op) (ap (λ (i : Instruction). i.volatile) made ∙ e)).0;
 }
 
 unless_refused_ok : {A : Type 0} (refusal : Option RefusalKind) (a b : A) → unless_refused refusal a ≡ Ok b → (refusal ≡ None) × (a ≡ b)
@@ -88,14 +90,15 @@ unless_refused_ok (Some kind) a b e = absurd cc
 pub code_line : (op : Op) (line : ItemForm) (instr : Instruction) → code_of op line ≡ Ok instr → IsCodeLine op line instr
 unfolding code_of
 code_line op line instr e =
-    let read = unless_refused_ok (refusal_by (code_rules op line)) (instruction op (operands_of op line)) instr e in
-    let rules = five_kept (line.exceeds || not (fits op (operands_of op line))) (names_refused op line)
+    let read = unless_refused_ok (refusal_by (code_rules op line)) (instruction op line.volatile (operands_of op line)) instr e in
+    let rules = five_kept (not (fits op (operands_of op line)) || (line.exceeds || has_half_of_fixed line.operands)) (names_refused op line)
     (list_any is_pointer line.definitions || list_any is_pointer_operand line.operands) (list_any is_misplaced (zip (places_of op line) line.operands))
     (is_long line) kinds.BadOperands kinds.VirtualRegister kinds.StackPointerUse kinds.StackObject kinds.TooMany read.0 in
-    let parts = or_parts line.exceeds (not (fits op (operands_of op line))) rules.0 in
-    code_line_by op line instr (operands_of op line) refl (not-false (fits op (operands_of op line)) parts.1) read.1 parts.0
+    let parts = or_parts (not (fits op (operands_of op line))) (line.exceeds || has_half_of_fixed line.operands) rules.0 in
+    let inside = or_parts line.exceeds (has_half_of_fixed line.operands) parts.1 in
+    code_line_by op line instr (operands_of op line) refl (not-false (fits op (operands_of op line)) parts.0) read.1 inside.0
     (or_parts (list_any is_refused_virtual line.definitions || list_any is_refused_operand line.operands)
-    (has_register_callee op && begins_with_virtual line.operands) rules.1).0 rules.2 rules.3 rules.4
+    (has_implicit_callee op && begins_with_virtual line.operands) rules.1).0 rules.2 rules.3 rules.4
 
 -- ---- debug lines
 

@@ -155,6 +155,7 @@ lexeme_by_fits classes.Node t text = tt
 lexeme_by_fits classes.Kind t text = kind_fits text
 lexeme_by_fits classes.Symbol t text = tt
 lexeme_by_fits classes.Integer t text = number_fits text
+lexeme_by_fits classes.Float t text = tt
 lexeme_by_fits classes.Text t text = tt
 lexeme_by_fits (classes.Single byte) t text = single_fits byte
 

@@ -1,5 +1,5 @@
 -- What the operands of a line of code give: operands of these numbers, none of which is the stack pointer, and which name no stack entry but those of the line.
-use Rattle.std.proofs.Common.{◌≡◌, ℕ, ℤ, pos, ◌+◌, ◌<◌, ◌≤◌, Bool, true, false, cond, eqb, ltb, List, [], ◌∷◌, ◌++◌, All, Option, Some, None, refl}
+use Rattle.std.proofs.Common.{◌≡◌, ℕ, ℤ, pos, ◌+◌, ◌<◌, ◌≤◌, Bool, true, false, cond, eqb, ltb, List, [], ◌∷◌, ◌++◌, All, Option, Some, None, refl, sym}
 use Rattle.std.proofs.Common.{subst, ◌∙◌, arith}
 use Rattle.std.specs.List.{list_any, cons_option}
 use Rattle.std.specs.Prelude.{unwrap_or}
@@ -8,6 +8,7 @@ use Rattle.std.proofs.lemmas.List.Elements.{All-nil, All-cons, All-append, All-w
 use Rattle.rv64_instr.specs.declared.op.Op.{Op}
 use Rattle.rv64_instr.specs.declared.operand.Operand.{Operand}
 use Rattle.rv64_instr.specs.declared.operand.Operand.TheVariants.{Def, Use, ImplicitDef, ImplicitUse, Imm, Slot, Object, Part, Outgoing, Block, Symbol, Mask}
+use Rattle.rv64_instr.specs.declared.operand.Operand.TheVariants.{GlobalRegisters}
 use Rattle.rv64_instr.specs.declared.symbol.Half.{Half}
 use Rattle.rv64_instr.specs.declared.symbol.Symbol.{Symbol as Linked}
 use Rattle.rv64_instr.specs.declared.symbol.Symbol.TheVariants.{Global, Constant as PoolConstant}
@@ -28,7 +29,7 @@ use Rattle.read_item.specs.declared.place.OperandKind.TheVariants as place
 use Rattle.read_item.specs.Place.{front, behind}
 use Rattle.read_item.specs.Code.{STAND_IN, VIRTUALS, virtual_operand}
 use Rattle.read_item.specs.Code.{number_of, used, stand_in, stack_operand, number_operand, half_operand, operand_at, before, joined, set_by, definition}
-use Rattle.read_item.specs.Code.{definitions, placed, called, callee_register, callee_operand, placed_behind_callee, has_register_callee, placed_by}
+use Rattle.read_item.specs.Code.{definitions, placed, called, callee_register, callee_operand, placed_behind_callee, has_implicit_callee, placed_by}
 use Rattle.read_item.specs.Code.{places_of, operands_of, is_named, is_pointer, is_pointer_operand}
 use Rattle.read_item.specs.Judge.{entry_of, entries_of}
 use Rattle.read_body.specs.FirstUseOrder.{is_met}
@@ -43,6 +44,7 @@ abbrev pub NamesAmong : List ℕ → Operand → Type 0
 NamesAmong entries (Slot n) = is_met n entries ≡ true
 NamesAmong entries (Object n) = is_met n entries ≡ true
 NamesAmong entries (Outgoing n) = ⊥
+NamesAmong entries GlobalRegisters = ⊥
 NamesAmong entries o = Unit {0}
 
 -- the numbers of an operand that was read, and that it is of the language
@@ -61,6 +63,11 @@ language_in linked o is = tt
 pub in_language : (linked : Bool) (o : Operand) → IsLimited o × IsOperandOf linked o → IsLimitedIn linked o
 in_language linked (Part half y) is = (is.1, is.0)
 in_language linked o is = is.0
+
+-- elsewhere than in the linked language, code isn't volatile
+pub not_volatile : (volatile : Bool) → (volatile ≡ true → false ≡ true) → volatile ≡ false
+not_volatile true h = sym (h refl)
+not_volatile false h = refl
 
 pub all_in_language : (linked : Bool) (os : List Operand) → All IsLimited os → All (IsOperandOf linked) os → All (IsLimitedIn linked) os
 all_in_language linked os small language =
@@ -284,7 +291,7 @@ behind_callee_read linked entries ps (o ∷ os) xs is e =
 
 placed_by_read : (linked : Bool) (entries : List ℕ) (op : Op) (ps : List OperandKind) (os : List OperandForm) (xs : List Operand) →
     AllOf (IsReadForm linked entries) os → placed_by op ps os ≡ Some xs → All (IsReadOperand linked entries) xs
-placed_by_read linked entries op ps os xs is e = by (has_register_callee op) e where
+placed_by_read linked entries op ps os xs is e = by (has_implicit_callee op) e where
   by : (b : Bool) → cond b (placed_behind_callee ps os) (placed ps os) ≡ Some xs → All (IsReadOperand linked entries) xs
   by true e = behind_callee_read linked entries ps os xs is e
   by false e = placed_read linked entries ps os xs is e

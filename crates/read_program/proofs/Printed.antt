@@ -146,7 +146,7 @@ module _ (ids : List ℕ) where
   call_kept os e = absurd cc
 
   held_call_kept : (os : List Operand) → fits_held_call os ≡ true → fits_held_call (operands_as ids os) ≡ true
-  held_call_kept (ImplicitUse r ∷ Mask ∷ rest) e = ap (λ (c : Bool). is_call_register r && c) (same_all is_argument argument_as rest) ∙ e
+  held_call_kept (Use r ∷ Mask ∷ rest) e = same_all is_argument argument_as rest ∙ e
   held_call_kept os e = absurd cc
 
   gone_kept : (os : List Operand) → fits_gone os ≡ true → fits_gone (operands_as ids os) ≡ true
@@ -183,8 +183,8 @@ module _ (ids : List ℕ) where
   form_kept NoReturnCallIndirect os e = held_gone_kept os e
 
   -- an instruction is renamed
-  pub renamed : (i : Instruction) → has_form i.op i.operands ≡ true → instr_as ids i ≡ record { op = i.op; operands = operands_as ids i.operands }
-  renamed i form = cond-true (has_form i.op (operands_as ids i.operands)) (record { op = i.op; operands = operands_as ids i.operands }) i
+  pub renamed : (i : Instruction) → has_form i.op i.operands ≡ true → instr_as ids i ≡ record i { operands = operands_as ids i.operands }
+  renamed i form = cond-true (has_form i.op (operands_as ids i.operands)) (record i { operands = operands_as ids i.operands }) i
       (form_kept i.op i.operands form)
 
 -- ---- an instruction names one object at most
@@ -230,7 +230,7 @@ module _ (found : Option ℕ) where
   three_before a b c rest p q r all = one_before a (b ∷ c ∷ rest) p (two_before b c rest q r all)
 
 immediate_object : (op : ImmediateOp) (os : List Operand) → fits_immediate op os ≡ true →
-    All (ObjectsAre (row_object (row_of (record { op = Immediate op; operands = os })))) os
+    All (ObjectsAre (row_object (row_of (record { op = Immediate op; operands = os; volatile = false })))) os
 immediate_object op (Def rd ∷ Use a ∷ Imm i ∷ rest) e =
     three_before _ (Def rd) (Use a) (Imm i) rest tt tt tt (rest_one _ rest (and_parts (is_immediate op i) (list_all is_implicit rest) e).1)
 immediate_object Addi (Def rd ∷ Object n ∷ Imm i ∷ rest) e =
@@ -240,7 +240,7 @@ immediate_object op (Def rd ∷ Use a ∷ Part Lower y ∷ rest) e =
     three_before _ (Def rd) (Use a) (Part Lower y) rest tt tt tt (rest_one _ rest (and_parts (is_addi op) (list_all is_implicit rest) e).1)
 immediate_object op os e = absurd cc
 
-load_object : (op : LoadOp) (os : List Operand) → fits_load op os ≡ true → All (ObjectsAre (row_object (row_of (record { op = Load op; operands = os })))) os
+load_object : (op : LoadOp) (os : List Operand) → fits_load op os ≡ true → All (ObjectsAre (row_object (row_of (record { op = Load op; operands = os; volatile = false })))) os
 load_object op (Def rd ∷ Use a ∷ Imm i ∷ rest) e =
     three_before _ (Def rd) (Use a) (Imm i) rest tt tt tt (rest_one _ rest (and_parts (has_12_bits i) (list_all is_implicit rest) e).1)
 load_object op (Def rd ∷ Slot n ∷ Imm i ∷ rest) e =
@@ -252,7 +252,7 @@ load_object op (Def rd ∷ Use a ∷ Part Lower y ∷ rest) e =
 load_object op os e = absurd cc
 
 store_object : (op : StoreOp) (os : List Operand) → fits_store op os ≡ true →
-    All (ObjectsAre (row_object (row_of (record { op = Store op; operands = os })))) os
+    All (ObjectsAre (row_object (row_of (record { op = Store op; operands = os; volatile = false })))) os
 store_object op (Use rs ∷ Use a ∷ Imm i ∷ rest) e =
     three_before _ (Use rs) (Use a) (Imm i) rest tt tt tt (rest_one _ rest (and_parts (has_12_bits i) (list_all is_implicit rest) e).1)
 store_object op (Use rs ∷ Slot n ∷ Imm i ∷ rest) e =
@@ -264,7 +264,7 @@ store_object op (Use rs ∷ Use a ∷ Part Lower y ∷ rest) e =
 store_object op os e = absurd cc
 
 -- in code that has its form, each object is the one that its row names
-pub one_object : (op : Op) (os : List Operand) → has_form op os ≡ true → All (ObjectsAre (row_object (row_of (record { op = op; operands = os })))) os
+pub one_object : (op : Op) (os : List Operand) → has_form op os ≡ true → All (ObjectsAre (row_object (row_of (record { op = op; operands = os; volatile = false })))) os
 one_object (Registers op) (Def rd ∷ Use a ∷ Use b ∷ rest) e = three_before _ (Def rd) (Use a) (Use b) rest tt tt tt (rest_one _ rest e)
 one_object (Immediate op) os e = immediate_object op os e
 one_object Lui (Def rd ∷ Imm i ∷ rest) e = two_before _ (Def rd) (Imm i) rest tt tt (rest_one _ rest (and_parts (is_within (pos 0) (pos 1048575) i)
@@ -277,9 +277,7 @@ one_object Copy (Def rd ∷ Use rs ∷ rest) e = two_before _ (Def rd) (Use rs) 
 one_object PseudoBr (Block n ∷ rest) e = one_before _ (Block n) rest tt (rest_one _ rest e)
 one_object PseudoCall (Symbol name ∷ Mask ∷ rest) e = two_before _ (Symbol name) Mask rest tt tt (all_one _ is_argument (argument_one _) rest e)
 one_object PseudoRet os e = all_one _ is_result (result_one _) os e
-one_object PseudoCallIndirect (ImplicitUse r ∷ Mask ∷ rest) e =
-    two_before _ (ImplicitUse r) Mask rest tt tt (all_one _ is_argument (argument_one _) rest (and_parts (is_call_register r)
-    (list_all is_argument rest) e).1)
+one_object PseudoCallIndirect (Use r ∷ Mask ∷ rest) e = two_before _ (Use r) Mask rest tt tt (all_one _ is_argument (argument_one _) rest e)
 one_object PseudoTail (Symbol name ∷ rest) e = one_before _ (Symbol name) rest tt (all_one _ is_held_tail_use (tail_one _) rest (held_tail_uses rest e))
 one_object PseudoTailIndirect (ImplicitUse r ∷ rest) e =
     one_before _ (ImplicitUse r) rest tt (all_one _ is_held_tail_use (tail_one _) rest (and_parts (is_held_tail_register r)

@@ -31,7 +31,7 @@ items_as ids (b ∷ bs) =
 -- an instruction has its form still
 form_as : (ids : List ℕ) (i : Instruction) → has_form i.op i.operands ≡ true →
     (b : Bool) → has_form i.op (operands_as ids i.operands) ≡ b →
-    let renamed = cond b (record { op = i.op; operands = operands_as ids i.operands }) i in has_form renamed.op renamed.operands ≡ true
+    let renamed = cond b (record i { operands = operands_as ids i.operands }) i in has_form renamed.op renamed.operands ≡ true
 form_as ids i form true is = is
 form_as ids i form false is = form
 

@@ -20,7 +20,7 @@ use Rattle.rv64_instr.specs.declared.op.StoreOp.{StoreOp}
 use Rattle.rv64_instr.specs.declared.operand.Operand.{Operand}
 use Rattle.rv64_instr.specs.declared.operand.Operand.TheVariants.{Def, Use, Imm, Slot, Object as OfObject, Part, Block as OfBlock}
 use Rattle.rv64_instr.specs.declared.symbol.Half.TheVariants.{Upper, Lower}
-use Rattle.rv64_instr.specs.declared.operand.Operand.TheVariants.{Symbol, Mask, ImplicitUse, Outgoing}
+use Rattle.rv64_instr.specs.declared.operand.Operand.TheVariants.{Symbol, Mask, ImplicitUse, Outgoing, GlobalRegisters}
 use Rattle.rv64_instr.specs.declared.place.Place.{Place}
 use Rattle.rv64_instr.specs.declared.place.Place.TheVariants as place
 use Rattle.rv64_instr.specs.Arithmetic.{word, load_width, store_width}
@@ -28,7 +28,7 @@ use Rattle.rv64_instr.specs.Form.{has_form, fits_immediate, fits_load, fits_stor
 use Rattle.rv64_instr.specs.Instruction.{Instruction}
 use Rattle.rv64_instr.specs.Row.{Row, Addresses, Loads, Stores, Branches, Jumps}
 use Rattle.rv64_instr.specs.Row.{row_of, immediate_row, object_row}
-use Rattle.rv64_instr.specs.Row.{move_row, implicit_uses, outgoing_words, held_call, held_tail, held_gone}
+use Rattle.rv64_instr.specs.Row.{move_row, implicit_uses, outgoing_words, held_tail, held_gone}
 use Rattle.mir_func.specs.declared.block.Block.{Block}
 use Rattle.mir_func.specs.declared.exit.Exit.TheVariants.{Onward}
 use Rattle.mir_func.specs.declared.item.Item.{Item}
@@ -42,7 +42,7 @@ use Rattle.mir_func.specs.Sound.{items_of, AllItems, TargetIn, TargetsIn, SlotIn
 use Rattle.mir_func.specs.Sound.{LeavesPointer, number_of, code_number, NumbersOnce, OriginIn, PassesFirst, KindPassesFirst}
 use Rattle.mir_func.specs.Sound.{HasForm, PassedIn}
 use Rattle.mir_func.proofs.Passed.{passes_none}
-use Rattle.read_declarations.specs.declared.stack.StackEntry.{StackEntry}
+use Rattle.read_body.specs.read_declarations.declared.stack.StackEntry.{StackEntry}
 use Rattle.read_body.specs.Closing.{goes_to_one_of, item_goes_to, block_goes_to, blocks_go_to}
 use Rattle.read_body.specs.StackEntryKind.{slots_of, ids_of_objects}
 use Rattle.read_body.specs.FirstUseOrder.{is_met}
@@ -70,10 +70,10 @@ targets_in ids all has _ e = tt
 
 module _ (ids : List ℕ) where
   abbrev row_as : Op → List Operand → Row
-  row_as op os = row_of (record { op = op; operands = operands_as ids os })
+  row_as op os = row_of (record { op = op; operands = operands_as ids os; volatile = false })
 
   abbrev row : Op → List Operand → Row
-  row op os = row_of (record { op = op; operands = os })
+  row op os = row_of (record { op = op; operands = os; volatile = false })
 
   exit_immediate : (op : ImmediateOp) (os : List Operand) → fits_immediate op os ≡ true → row_exit (row_as (Immediate op) os) ≡ row_exit (row (Immediate op) os)
   exit_immediate op (Def rd ∷ Use a ∷ Imm i ∷ rest) e = refl
@@ -84,7 +84,7 @@ module _ (ids : List ℕ) where
   exit_load : (op : LoadOp) (os : List Operand) → fits_load op os ≡ true → row_exit (row_as (Load op) os) ≡ row_exit (row (Load op) os)
   exit_load op (Def rd ∷ Use a ∷ Imm i ∷ rest) e = refl
   exit_load op (Def rd ∷ Slot n ∷ Imm i ∷ rest) e = by (is_met n ids) where
-    by : (b : Bool) → row_exit (row_of (record { op = Load op; operands = Def rd ∷ cond b (OfObject n) (Slot n) ∷ Imm i ∷ operands_as ids rest })) ≡ Onward
+    by : (b : Bool) → row_exit (row_of (record { op = Load op; operands = Def rd ∷ cond b (OfObject n) (Slot n) ∷ Imm i ∷ operands_as ids rest; volatile = false })) ≡ Onward
     by true = refl
     by false = refl
   exit_load op (Def rd ∷ OfObject n ∷ Imm i ∷ rest) e = refl
@@ -94,7 +94,7 @@ module _ (ids : List ℕ) where
   exit_store : (op : StoreOp) (os : List Operand) → fits_store op os ≡ true → row_exit (row_as (Store op) os) ≡ row_exit (row (Store op) os)
   exit_store op (Use rs ∷ Use a ∷ Imm i ∷ rest) e = refl
   exit_store op (Use rs ∷ Slot n ∷ Imm i ∷ rest) e = by (is_met n ids) where
-    by : (b : Bool) → row_exit (row_of (record { op = Store op; operands = Use rs ∷ cond b (OfObject n) (Slot n) ∷ Imm i ∷ operands_as ids rest })) ≡ Onward
+    by : (b : Bool) → row_exit (row_of (record { op = Store op; operands = Use rs ∷ cond b (OfObject n) (Slot n) ∷ Imm i ∷ operands_as ids rest; volatile = false })) ≡ Onward
     by true = refl
     by false = refl
   exit_store op (Use rs ∷ OfObject n ∷ Imm i ∷ rest) e = refl
@@ -111,10 +111,6 @@ module _ (ids : List ℕ) where
   uses_as (ImplicitUse r ∷ os) = ap (λ (z : List ℕ). cond (nat_eq r 2) z (r ∷ z)) (uses_as os)
   uses_as (_ ∷ os) = uses_as os
 
-  exit_alike : (xs outgoing others : List ℕ) → row_exit (held_call xs outgoing) ≡ row_exit (held_call xs others)
-  exit_alike [] outgoing others = refl
-  exit_alike (r ∷ xs) outgoing others = refl
-
   -- control leaves it as before
   exit_as : (op : Op) (os : List Operand) → has_form op os ≡ true → row_exit (row_as op os) ≡ row_exit (row op os)
   exit_as (Registers op) (Def rd ∷ Use a ∷ Use b ∷ rest) e = refl
@@ -128,9 +124,7 @@ module _ (ids : List ℕ) where
   exit_as PseudoBr (OfBlock n ∷ rest) e = refl
   exit_as PseudoCall (Symbol name ∷ Mask ∷ rest) e = refl
   exit_as PseudoRet os e = refl
-  exit_as PseudoCallIndirect os e =
-      ap (λ (xs : List ℕ). row_exit (held_call xs (outgoing_words (operands_as ids os)))) (uses_as os)
-      ∙ exit_alike (implicit_uses os) (outgoing_words (operands_as ids os)) (outgoing_words os)
+  exit_as PseudoCallIndirect (Use r ∷ Mask ∷ rest) e = refl
   exit_as PseudoTail (Symbol name ∷ rest) e = refl
   exit_as PseudoTailIndirect os e = ap (λ (xs : List ℕ). row_exit (held_tail xs)) (uses_as os)
   exit_as NoReturnCall (Symbol name ∷ Mask ∷ rest) e = refl
@@ -186,6 +180,7 @@ module _ (named : List ℕ) (es : List StackEntry) (entries : List ℕ) (all : (
       op = Load op;
       operands = Def rd ∷ cond b (OfObject n)
           (Slot n) ∷ Imm i ∷ operands_as ids rest;
+      volatile = false;
     }))
     by true is = tt
     by false is = in_slots n (second (Def rd) (Slot n) (Imm i ∷ rest) names) is
@@ -200,16 +195,13 @@ module _ (named : List ℕ) (es : List StackEntry) (entries : List ℕ) (all : (
       op = Store op;
       operands = Use rs ∷ cond b (OfObject n)
           (Slot n) ∷ Imm i ∷ operands_as ids rest;
+      volatile = false;
     }))
     by true is = tt
     by false is = in_slots n (second (Use rs) (Slot n) (Imm i ∷ rest) names) is
   slot_store op (Use rs ∷ OfObject n ∷ Imm i ∷ rest) e names = tt
   slot_store op (Use rs ∷ Use a ∷ Part Lower y ∷ rest) e names = tt
   slot_store op os e names = absurd cc
-
-  held_call_slot : (xs outgoing : List ℕ) → SlotIn slots (held_call xs outgoing)
-  held_call_slot [] outgoing = tt
-  held_call_slot (r ∷ xs) outgoing = tt
 
   held_tail_slot : (xs : List ℕ) → SlotIn slots (held_tail xs)
   held_tail_slot [] = tt
@@ -231,7 +223,7 @@ module _ (named : List ℕ) (es : List StackEntry) (entries : List ℕ) (all : (
   slot_in_row PseudoBr (OfBlock n ∷ rest) e names = tt
   slot_in_row PseudoCall (Symbol name ∷ Mask ∷ rest) e names = tt
   slot_in_row PseudoRet os e names = tt
-  slot_in_row PseudoCallIndirect os e names = held_call_slot (implicit_uses (operands_as ids os)) (outgoing_words (operands_as ids os))
+  slot_in_row PseudoCallIndirect (Use r ∷ Mask ∷ rest) e names = tt
   slot_in_row PseudoTail (Symbol name ∷ rest) e names = tt
   slot_in_row PseudoTailIndirect os e names = held_tail_slot (implicit_uses (operands_as ids os))
   slot_in_row NoReturnCall (Symbol name ∷ Mask ∷ rest) e names = tt
@@ -253,6 +245,7 @@ module _ (named : List ℕ) (es : List StackEntry) (entries : List ℕ) (all : (
     by true = tt
     by false = tt
   passed_as (Outgoing n) is = absurd is
+  passed_as GlobalRegisters is = absurd is
   passed_as _ is = tt
 
   pub slots_as : (kind : ItemKind) → HasForm kind → KindNamesAmong entries kind → SlotsIn slots (kind_as ids kind)
@@ -273,12 +266,13 @@ module _ (named : List ℕ) (es : List StackEntry) (entries : List ℕ) (all : (
     by true e = e
     by false e = e
   no_words (Outgoing n ∷ os) names = absurd (All-head (NamesAmong entries) (Outgoing n) os names)
+  no_words (GlobalRegisters ∷ os) names = absurd (All-head (NamesAmong entries) GlobalRegisters os names)
   no_words (o ∷ os) names = no_words os (All-tail (NamesAmong entries) o os names)
 
   pub first_as : (kind : ItemKind) → HasForm kind → KindNamesAmong entries kind → KindPassesFirst slots (kind_as ids kind)
   first_as (Code i k) form names =
       subst (λ (j : Instruction). PassesFirst slots (row_of j)) (sym (renamed ids i form))
-      (passes_none slots (record { op = i.op; operands = operands_as ids i.operands }) (no_words i.operands names))
+      (passes_none slots (record i { operands = operands_as ids i.operands }) (no_words i.operands names))
   first_as (Mark v m) form names = tt
   first_as (Phi p k) form names = tt
 

@@ -16,10 +16,11 @@ use Rattle.mir_func.specs.declared.item.ItemKind.{ItemKind}
 use Rattle.mir_func.specs.declared.location.Loc.{Loc}
 use Rattle.mir_func.specs.Function.{Function}
 use Rattle.mir_func.specs.Sound.{AreApart, ids_of, AllItems, TargetsIn, SlotsIn, LeavesPointer, OriginIn, IsSound, KindPassesFirst}
-use Rattle.read_declarations.specs.declared.declarations.Declarations.{Declarations}
-use Rattle.read_declarations.specs.declared.stack.StackEntry.{StackEntry}
-use Rattle.read_declarations.specs.Declarations.{declarations_of}
-use Rattle.read_declarations.specs.Stack.{is_alignment}
+use Rattle.mir_pool.specs.Pool.{constant_ids}
+use Rattle.read_body.specs.read_declarations.declared.declarations.Declarations.{Declarations}
+use Rattle.read_body.specs.read_declarations.declared.stack.StackEntry.{StackEntry}
+use Rattle.read_body.specs.read_declarations.Declarations.{declarations_of}
+use Rattle.read_body.specs.read_declarations.Stack.{is_alignment}
 use Rattle.read_body.specs.declared.body.Body.{Body}
 use Rattle.read_body.specs.Body.{blocks_of}
 use Rattle.read_body.specs.Closing.{blocks_go_to, item_goes_to, all_met}
@@ -84,7 +85,7 @@ closes_all d body none = by (blocks_go_to body.ids (blocks_of body)) (all_met (e
   parts = parts_of body.objects d.stack (blocks_of body)
 
   known : Bool
-  known = are_known d.pool (blocks_of body)
+  known = are_known (constant_ids d.pool) (blocks_of body)
 
   made : (c : Bool) → (known && is_some parts) ≡ c → cond c None (Some StackObject) ≡ None → is_some parts ≡ true
   made true is e = (and_parts known (is_some parts) is).1
@@ -185,8 +186,8 @@ module _ (meta : Maps) (doc : FunctionDocument) (d : Declarations) (body : Body)
 
 -- its function is sound
 pub ends_well : (line : ℕ) (d : Declarations) (body : Body) (p : Parsed) → closing_cause d body ≡ None → IsSound (function_of d body) →
-    p.func ≡ function_of d body → p.subs ≡ d.substitutions → Closes line d body (Ok p)
-ends_well line d body p none sound func subs = (none, func, subs, (sound.ends, sound.last))
+    p.func ≡ function_of d body → p.subs ≡ d.substitutions → p.exposure ≡ d.exposure → p.pool ≡ d.pool → Closes line d body (Ok p)
+ends_well line d body p none sound func subs exposes pool = (none, func, subs, (sound.ends, sound.last), exposes, pool)
 
 -- ---- the steps of a close
 
@@ -206,7 +207,7 @@ cause_none true false c p q r = absurd cc
 cause_none true true false p q r = absurd cc
 
 pub laid_by_parts : (d : Declarations) (body : Body) (blocks : List Block) (known : List ℕ) (made : Option Parts) (p : Parts) → blocks ≡ blocks_of body →
-    blocks_go_to body.ids blocks ≡ true → known ≡ entry_ids d.stack → all_met known body.entries ≡ true → are_known d.pool blocks ≡ true →
+    blocks_go_to body.ids blocks ≡ true → known ≡ entry_ids d.stack → all_met known body.entries ≡ true → are_known (constant_ids d.pool) blocks ≡ true →
     made ≡ parts_of body.objects d.stack blocks → made ≡ Some p → IsLaidOut d body p
 laid_by_parts d body blocks known made p same goes entries met pool parts is =
     let here : parts_of body.objects d.stack (blocks_of body) ≡ Some p =
@@ -214,10 +215,10 @@ laid_by_parts d body blocks known made p same goes entries met pool parts is =
     let whole = parts_are (stays (laid_out body.objects d.stack (blocks_of body))) (laid_out body.objects d.stack (blocks_of body)) p here in
     record {
       none = cause_none (blocks_go_to body.ids (blocks_of body)) (all_met (entry_ids d.stack) body.entries)
-          (are_known d.pool (blocks_of body) && is_some (parts_of body.objects d.stack (blocks_of body)))
+          (are_known (constant_ids d.pool) (blocks_of body) && is_some (parts_of body.objects d.stack (blocks_of body)))
           (ap (blocks_go_to body.ids) (sym same) ∙ goes) (ap (λ (l : List ℕ). all_met l body.entries) (sym entries) ∙ met)
-          (and_from (are_known d.pool (blocks_of body)) (is_some (parts_of body.objects d.stack (blocks_of body)))
-          (ap (are_known d.pool) (sym same) ∙ pool) (ap (λ (o : Option Parts). is_some o) here));
+          (and_from (are_known (constant_ids d.pool) (blocks_of body)) (is_some (parts_of body.objects d.stack (blocks_of body)))
+          (ap (are_known (constant_ids d.pool)) (sym same) ∙ pool) (ap (λ (o : Option Parts). is_some o) here));
       parts = whole.1;
     }
 
@@ -229,10 +230,11 @@ made_is : (d : Declarations) (body : Body) (p : Parts) → IsLaidOut d body p �
 made_is d body p is = ap (made_of d.name) is.parts
 
 pub close_well : (line : ℕ) (d : Declarations) (body : Body) (p : Parts) (f : Function) → IsLaidOut d body p → f ≡ made_of d.name p → IsSound f →
-    Closes line d body (Ok (record { func = f; subs = d.substitutions }))
+    Closes line d body (Ok (record { func = f; subs = d.substitutions; pool = d.pool; exposure = d.exposure }))
 close_well line d body p f is made sound =
     let same = made ∙ made_is d body p is in
-    ends_well line d body (record { func = f; subs = d.substitutions }) is.none (subst IsSound same sound) same refl
+    ends_well line d body (record { func = f; subs = d.substitutions; pool = d.pool; exposure = d.exposure }) is.none (subst IsSound same sound) same refl refl
+    refl
 
 pub close_badly : (meta : Maps) (doc : FunctionDocument) (line : ℕ) (d : Declarations) (body : Body) (p : Parts) → declarations_of doc ≡ Ok d →
     body_of doc.linked meta doc.body ≡ Ok body → IsLaidOut d body p → (IsSound (made_of d.name p) → ⊥) →

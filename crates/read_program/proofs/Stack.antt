@@ -19,21 +19,21 @@ use Rattle.mir_func.specs.Sound.{AreApart, IsLocalOffset}
 use Rattle.mir_func.specs.Limits.{MAX_SLOTS}
 use Rattle.base_ids.specs.Limits.{MAX_NUMBER}
 use Rattle.read_lexer.specs.declared.line.Line.{Line}
-use Rattle.read_declarations.specs.declared.declarations.Declarations.{Declarations}
-use Rattle.read_declarations.specs.declared.entry.MappingEntry.{MappingEntry}
-use Rattle.read_declarations.specs.declared.entry.MappingField.{MappingField}
-use Rattle.read_declarations.specs.declared.stack.StackEntry.{StackEntry}
-use Rattle.read_declarations.specs.declared.stack.StackRead.{StackRead}
-use Rattle.read_declarations.specs.declared.stream.YamlToken.{YamlToken}
-use Rattle.read_declarations.specs.Declarations.{fixed_refusal, refusal_of, declared_of, checked, declarations_of}
-use Rattle.read_declarations.specs.Field.{value_at, number_in, needed, given, positive, negated_of, negated_in, negated, is_variable_sized}
-use Rattle.read_declarations.specs.List.{list_of}
-use Rattle.read_declarations.specs.Name.{name_of}
-use Rattle.read_declarations.specs.Stack.{is_alignment, entry_with, unsized, stack_entry_of, has_id, clash, refusal_at, judged}
-use Rattle.read_declarations.specs.Stack.{entry_offsets, without_offset, shared, stack_behind, stack_read, stack_of}
-use Rattle.read_declarations.specs.Stream.{text_at}
-use Rattle.read_declarations.specs.Substitutions.{substitutions_of}
-use Rattle.read_declarations.specs.Constants.{pool_of}
+use Rattle.read_body.specs.read_declarations.declared.declarations.Declarations.{Declarations}
+use Rattle.read_body.specs.read_declarations.declared.entry.MappingEntry.{MappingEntry}
+use Rattle.read_body.specs.read_declarations.declared.entry.MappingField.{MappingField}
+use Rattle.read_body.specs.read_declarations.declared.stack.StackEntry.{StackEntry}
+use Rattle.read_body.specs.read_declarations.declared.stack.StackRead.{StackRead}
+use Rattle.read_body.specs.read_declarations.declared.stream.YamlToken.{YamlToken}
+use Rattle.read_body.specs.read_declarations.Declarations.{fixed_refusal, refusal_of, declared_of, checked, declarations_of}
+use Rattle.read_body.specs.read_declarations.Field.{value_at, number_in, needed, given, positive, negated_of, negated_in, negated, is_variable_sized}
+use Rattle.read_body.specs.read_declarations.List.{list_of}
+use Rattle.read_body.specs.read_declarations.Name.{name_of}
+use Rattle.read_body.specs.read_declarations.Stack.{is_alignment, entry_with, unsized, stack_entry_of, has_id, clash, refusal_at, judged}
+use Rattle.read_body.specs.read_declarations.Stack.{entry_offsets, without_offset, shared, stack_behind, stack_read, stack_of}
+use Rattle.read_body.specs.read_declarations.Stream.{text_at}
+use Rattle.read_body.specs.read_declarations.Substitutions.{substitutions_of}
+use Rattle.read_body.specs.read_declarations.Constants.{pool_of}
 use Rattle.read_program.proofs.Lists.{apart_push}
 
 pub record IsReadEntry (e : StackEntry) : Type 0 where

@@ -9,10 +9,11 @@ use Rattle.read_documents.specs.declared.parts.FunctionDocument.{FunctionDocumen
 use Rattle.mir_func.specs.declared.block.Block.{Block}
 use Rattle.mir_func.specs.Function.{Function}
 use Rattle.mir_func.specs.Sound.{EndsWell, LastCloses}
-use Rattle.read_declarations.specs.declared.declarations.Declarations.{Declarations}
-use Rattle.read_declarations.specs.declared.stack.StackEntry.{StackEntry}
+use Rattle.mir_pool.specs.Pool.{constant_ids}
+use Rattle.read_body.specs.read_declarations.declared.declarations.Declarations.{Declarations}
+use Rattle.read_body.specs.read_declarations.declared.stack.StackEntry.{StackEntry}
 use Rattle.mir_func.specs.Limits.{MAX_SLOTS}
-use Rattle.read_declarations.specs.Declarations.{declarations_of}
+use Rattle.read_body.specs.read_declarations.Declarations.{declarations_of}
 use Rattle.read_body.specs.declared.body.Body.{Body}
 use Rattle.read_body.specs.FirstUseOrder.{met}
 use Rattle.read_body.specs.Body.{blocks_of}
@@ -60,7 +61,7 @@ parts_of named es blocks = if stays (laid_out named es blocks) then Some (laid_o
 abbrev pub closing_cause : Declarations → Body → Option RefusalKind
 closing_cause d body =
     if blocks_go_to body.ids (blocks_of body)
-    then (if all_met (entry_ids d.stack) body.entries && (are_known d.pool (blocks_of body) &&
+    then (if all_met (entry_ids d.stack) body.entries && (are_known (constant_ids d.pool) (blocks_of body) &&
     is_some (parts_of body.objects d.stack (blocks_of body))) then None else Some StackObject)
     else Some UnknownBlock
 
@@ -86,6 +87,7 @@ ClosesWith line r None f = (r ≡ record { line = line; kind = BlockEnd }) × (E
 -- What a call returns for declarations and a body that close at this line. Nothing is claimed if memory ran out.
 abbrev pub Closes : ℕ → Declarations → Body → Result Parsed ParseError → Type 0
 Closes line d body (Ok p) = (closing_cause d body ≡ None) × (p.func ≡ function_of d body) × (p.subs ≡ d.substitutions) × EndWell (function_of d body).blocks
+    × (p.exposure ≡ d.exposure) × (p.pool ≡ d.pool)
 Closes line d body (Err errors.Memory) = Unit {0}
 Closes line d body (Err (errors.Refused r)) = ClosesWith line r (closing_cause d body) (function_of d body)
 
@@ -102,7 +104,7 @@ ParsesParts line (Err r) (Ok body) answer = IsRefused r answer
 ParsesParts line (Ok d) (Err s) answer = IsRefused s answer
 ParsesParts line (Err r) (Err s) answer = IsRefused (if comes_before s r then s else r) answer
 
--- What a call returns for a function's document, given the metadata of its text: the function with its substitutions, or its first refusal. That is the
--- first of its declarations and body lines, and if there is none, that of the closing line.
+-- What a call returns for a function's document, given the metadata of its text: the function with its substitutions, the constants of its pool and what it
+-- exposes, or its first refusal. That is the first of its declarations and body lines, and if there is none, that of the closing line.
 abbrev pub Parses : Maps → FunctionDocument → Result Parsed ParseError → Type 0
 Parses meta doc answer = ParsesParts doc.closed (declarations_of doc) (body_of doc.linked meta doc.body) answer

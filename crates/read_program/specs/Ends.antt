@@ -4,7 +4,9 @@ use Rattle.std.specs.Prelude.{ℕ, ◌+◌, Bool, true, false, nat_lt, if◌then
 use Rattle.std.specs.Option.{option_map}
 use Rattle.std.specs.List.{slice_get}
 use Rattle.rv64_instr.specs.declared.op.Op.{Op}
-use Rattle.rv64_instr.specs.declared.op.Op.TheVariants.{NoReturnCall, NoReturnCallIndirect}
+use Rattle.rv64_instr.specs.declared.op.Op.TheVariants.{PseudoCallIndirect, NoReturnCall, NoReturnCallIndirect}
+use Rattle.rv64_instr.specs.declared.operand.Operand.{Operand}
+use Rattle.rv64_instr.specs.declared.operand.Operand.TheVariants.{Use, ImplicitUse}
 use Rattle.rv64_instr.specs.Form.{has_form}
 use Rattle.rv64_instr.specs.Instruction.{Instruction}
 use Rattle.mir_func.specs.declared.block.Block.{Block}
@@ -35,9 +37,18 @@ is_gone_call (Code i k) = is_gone i.op
 is_gone_call (Mark v m) = false
 is_gone_call (Phi p k) = false
 
--- an instruction, which doesn't return if it is a call
+-- the operands of a call that doesn't return: the register of a callee is an implicit use
+abbrev pub gone_operands : Op → List Operand → List Operand
+gone_operands PseudoCallIndirect (Use r ∷ rest) = ImplicitUse r ∷ rest
+gone_operands op operands = operands
+
+-- an instruction as one that doesn't return, if it is a call
+abbrev pub gone_instruction : Instruction → Instruction
+gone_instruction i = record i { op = without_return i.op; operands = gone_operands i.op i.operands }
+
+-- an instruction, which doesn't return if it is a call that may not return
 abbrev pub not_returning : Instruction → Instruction
-not_returning i = if has_form (without_return i.op) i.operands then record { op = without_return i.op; operands = i.operands } else i
+not_returning i = if has_form (without_return i.op) (gone_operands i.op i.operands) then gone_instruction i else i
 
 -- an item, which doesn't return if it is a call
 abbrev pub kind_not_returning : ItemKind → ItemKind

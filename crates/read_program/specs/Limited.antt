@@ -2,6 +2,7 @@
 use Rattle.std.specs.Prelude.{◌≡◌, pos, negsuc, Bool, true, ◌<◌, ◌≤◌, IfSome, IsTrue, All, Option, Some, None}
 use Rattle.rv64_instr.specs.declared.operand.Operand.{Operand}
 use Rattle.rv64_instr.specs.declared.operand.Operand.TheVariants.{Def, Use, ImplicitDef, ImplicitUse, Imm, Slot, Object, Part, Outgoing, Block, Symbol, Mask}
+use Rattle.rv64_instr.specs.declared.operand.Operand.TheVariants.{GlobalRegisters}
 use Rattle.rv64_instr.specs.declared.place.Place.{Place}
 use Rattle.rv64_instr.specs.declared.place.Place.TheVariants as place
 use Rattle.rv64_instr.specs.declared.symbol.Symbol.{Symbol as Linked}
@@ -44,6 +45,7 @@ IsLimited (Slot n) = n ≤ MAX_NUMBER
 IsLimited (Object n) = n ≤ MAX_NUMBER
 IsLimited (Part half y) = AddressIsLimited y
 IsLimited (Outgoing n) = ⊥
+IsLimited GlobalRegisters = ⊥
 IsLimited (Block n) = n ≤ MAX_NUMBER
 IsLimited (Symbol name) = Unit {0}
 IsLimited Mask = Unit {0}
@@ -85,8 +87,8 @@ abbrev pub IsOperandOf : (linked : Bool) → Operand → Type 0
 IsOperandOf linked (Part half y) = linked ≡ true
 IsOperandOf linked _ = Unit {0}
 
--- an item of a language: its opcode is one that is read there
+-- an item of a language: its opcode is one that is read there, and volatile code is of the linked one alone
 abbrev pub IsOfLanguage : (linked : Bool) → ItemKind → Type 0
-IsOfLanguage linked (Code i k) = All (IsOperandOf linked) i.operands × IsTrue (is_read linked i.op)
+IsOfLanguage linked (Code i k) = All (IsOperandOf linked) i.operands × IsTrue (is_read linked i.op) × (i.volatile ≡ true → linked ≡ true)
 IsOfLanguage linked (Mark v m) = Unit {0}
 IsOfLanguage linked (Phi p k) = Unit {0}

@@ -5,7 +5,7 @@ use Rattle.std.specs.Option.{option_map_or}
 use Rattle.rv64_instr.specs.Row.{Base, PointedBy, ObjectAt, BesidePart}
 use Rattle.rv64_instr.specs.declared.operand.Operand.{Operand}
 use Rattle.rv64_instr.specs.declared.operand.Operand.TheVariants.{Def, Use, ImplicitDef, ImplicitUse, Imm, Slot, Object, Part, Block as OfBlock, Symbol, Mask}
-use Rattle.rv64_instr.specs.declared.operand.Operand.TheVariants.{Outgoing}
+use Rattle.rv64_instr.specs.declared.operand.Operand.TheVariants.{Outgoing, GlobalRegisters}
 use Rattle.rv64_instr.specs.declared.place.Place.{Place}
 use Rattle.rv64_instr.specs.declared.place.Place.TheVariants as places
 use Rattle.rv64_instr.specs.Form.{has_form}
@@ -31,6 +31,7 @@ operand_as ids (Imm i) = Imm i
 operand_as ids (Object n) = Object n
 operand_as ids (Part half y) = Part half y
 operand_as ids (Outgoing n) = Outgoing n
+operand_as ids GlobalRegisters = GlobalRegisters
 operand_as ids (OfBlock n) = OfBlock n
 operand_as ids (Symbol name) = Symbol name
 operand_as ids Mask = Mask
@@ -41,7 +42,7 @@ operands_as ids operands = map (operand_as ids) operands
 
 -- An instruction: its slots become objects, if the opcode takes them so; else it is left as it is.
 abbrev pub instr_as : List ℕ → Instruction → Instruction
-instr_as ids i = if has_form i.op (operands_as ids i.operands) then record { op = i.op; operands = operands_as ids i.operands } else i
+instr_as ids i = if has_form i.op (operands_as ids i.operands) then record i { operands = operands_as ids i.operands } else i
 
 -- whether a location is a slot whose entry is a stack object
 abbrev pub is_object : List ℕ → Place → Bool

@@ -100,7 +100,7 @@ fn take_item(
     match judge(alloc, linked, form, meta) {
         Ok(Judged::Passed) => Ok(None),
         Ok(Judged::Item(item)) => take_one(body, item),
-        Ok(Judged::Two(first, second)) => take_two(body, first, second),
+        Ok(Judged::Two(first, second)) => take_two(body, first, second.into_item()),
         Err(JudgeError::Refused(kind)) => Ok(Some(body.refused_cause(kind, form.number))),
         Err(JudgeError::Memory) => Err(AllocError),
     }

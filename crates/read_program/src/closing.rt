@@ -4,38 +4,45 @@ ghost use Rattle.std.specs.Prelude.{◌≡◌, IfOk, IfSome, IsNone, Ok};
 ghost use Rattle.read_metadata.specs.Maps.{Maps};
 ghost use Rattle.read_documents.specs.declared.parts.FunctionDocument.{FunctionDocument};
 ghost use Rattle.mir_func.specs.Sound.{IsSound};
-ghost use Rattle.read_declarations.specs.Declarations.{declarations_of};
+ghost use Rattle.read_body.specs.read_declarations.Declarations.{declarations_of};
 ghost use Rattle.read_body.specs.Body.{and_last};
 ghost use Rattle.read_program.specs.BodyLines.{body_of};
 ghost use Rattle.read_program.specs.Closing.{AreEntries, entry_ids, parts_of, Closes};
+ghost use Rattle.mir_pool.specs.Pool.{constant_ids};
 ghost use Rattle.read_program.specs.Pool.{are_known};
 
 use crate::error::ParseError;
 use crate::objects::{blocks_as, blocks_stay};
 use crate::pool::are_known;
 use base_list::List;
+use mir_exposure::exposure::Exposure;
 use mir_func::block::{Block, Blocks};
 use mir_func::func::{Func, FuncError, SlotIds};
 use mir_func::object::Objects;
-use mir_substitution::substitutions::Substitutions;
+use mir_pool::constant::Pool;
 use read_body::body::Body;
 use read_body::closing::{all_met, blocks_go_to};
 use read_body::first_use_order::FirstUseOrder;
+use read_body::mir_substitution_crate::substitutions::Substitutions;
+use read_body::read_declarations_crate::declarations::Declarations;
+use read_body::read_declarations_crate::stack::StackEntry;
 use read_body::stack_entry_kind::{object_ids, objects, slots};
-use read_declarations::declarations::Declarations;
-use read_declarations::stack::StackEntry;
 use read_refusal::first::Refusal;
 use read_refusal::kind::RefusalKind;
 use rv64_instr::name::Name;
 use std::alloc::{AllocError, Global};
 
-/// A function that was read, with its debug value substitutions.
+/// A function that was read, with its debug value substitutions, the constants of its pool and what it exposes.
 #[derive(Drop)]
 pub struct Parsed {
     /// The function.
     pub func: Func,
     /// Its substitutions.
     pub subs: Substitutions,
+    /// The constants of its pool, in declared order: none but in the linked language.
+    pub pool: Pool,
+    /// What it exposes to other code.
+    pub exposure: Exposure,
 }
 
 /// The parts of a function but its name.
@@ -98,7 +105,7 @@ fn has_constants(
     declared: &Declarations,
     blocks: &Blocks,
 ) -> Result<bool, AllocError>
-    ensures { IfOk result (λ known. known ≡ are_known declared.now.pool blocks.now) }
+    ensures { IfOk result (λ known. known ≡ are_known (constant_ids declared.now.pool) blocks.now) }
 {
     are_known(alloc, declared.pool.as_slice(), blocks.as_slice())
 }
@@ -186,6 +193,8 @@ pub fn close(
         Some(func) => Ok(Parsed {
             func,
             subs: declared.substitutions,
+            pool: declared.pool,
+            exposure: declared.exposure,
         }),
         None => Err(refused(line, RefusalKind::BlockEnd)),
     }

@@ -1,13 +1,15 @@
 //! The ends of a body's blocks in the linked language.
 
-ghost use Rattle.std.specs.Prelude.{◌≡◌, true, IfOk, OnOk};
+ghost use Rattle.std.specs.Prelude.{◌≡◌, ◌++◌, true, IfOk, OnOk, Some};
 ghost use Rattle.std.specs.List.{slice_get};
 ghost use Rattle.std.specs.Option.{option_map};
 ghost use Rattle.read_program.specs.Ends.{
   is_code,
   is_gone,
   is_gone_call,
+  gone_operands,
   not_returning,
+  kind_not_returning,
   last_kind,
   newer,
   last_code,
@@ -30,6 +32,7 @@ use read_item::opcode::without_return;
 use rv64_instr::form::has_form;
 use rv64_instr::instr::Instr;
 use rv64_instr::op::Op;
+use rv64_instr::operand::{Operand, Operands};
 use std::alloc::{AllocError, Global};
 
 fn is_code(kind: &ItemKind) -> bool
@@ -45,60 +48,87 @@ fn is_gone(op: Op) -> bool
     matches!(op, Op::NoReturnCall | Op::NoReturnCallIndirect)
 }
 
-/// The opcode of an instruction, of one that doesn't return if it is a call.
-fn op_not_returning(instr: &Instr) -> Op
-    ensures { result ≡ (not_returning instr.now).op }
+/// Whether an item is a call that doesn't return.
+fn is_gone_call(kind: &ItemKind) -> bool
+    ensures { result ≡ is_gone_call kind.now }
 {
-    let op = without_return(instr.op);
-    if has_form(op, instr.operands.as_slice()) {
-        op
-    } else {
-        instr.op
+    match kind {
+        ItemKind::Code(instr, _) => is_gone(instr.op),
+        ItemKind::Mark(_, _) | ItemKind::Phi(_, _) => false,
     }
 }
 
-/// An instruction, which doesn't return if it is a call.
-fn not_returning(instr: Instr) -> Instr
-    ensures { result ≡ not_returning instr }
+fn push_all(made: &mut Operands, operands: &[Operand]) -> Result<(), AllocError>
+    ensures { OnOk result (made.new ≡ made.old ++ operands.now) }
+{
+    for operand in operands {
+        made.push(operand.copy()?)?;
+    }
+    Ok(())
+}
+
+/// The operands of a call by a register that doesn't return: the register is an implicit use.
+fn held_operands(alloc: Global, operands: &Operands) -> Result<Operands, AllocError>
+    ensures { IfOk result (λ gone. gone ≡ gone_operands Op.PseudoCallIndirect operands.now) }
+{
+    match operands.as_slice() {
+        [Operand::Use(r), rest @ ..] => {
+            let mut gone = Operands::new(alloc);
+            gone.push(Operand::ImplicitUse(*r))?;
+            push_all(&mut gone, rest)?;
+            Ok(gone)
+        }
+        _ => operands.copy(),
+    }
+}
+
+/// The operands of a call that doesn't return.
+fn gone_operands(alloc: Global, op: Op, operands: &Operands) -> Result<Operands, AllocError>
+    ensures { IfOk result (λ gone. gone ≡ gone_operands op operands.now) }
+{
+    match op {
+        Op::PseudoCallIndirect => held_operands(alloc, operands),
+        _ => operands.copy(),
+    }
+}
+
+/// An instruction, which doesn't return if it is a call that may not return.
+fn not_returning(alloc: Global, instr: &Instr) -> Result<Instr, AllocError>
+    ensures { IfOk result (λ gone. gone ≡ not_returning instr.now) }
 {
     let op = without_return(instr.op);
-    if has_form(op, instr.operands.as_slice()) {
-        Instr {
+    let operands = gone_operands(alloc, instr.op, &instr.operands)?;
+    if has_form(op, operands.as_slice()) {
+        Ok(Instr {
             op,
-            operands: instr.operands,
-        }
+            operands,
+            volatile: instr.volatile,
+        })
     } else {
-        instr
+        instr.copy()
+    }
+}
+
+/// An item, which doesn't return if it is a call that may not return.
+fn kind_not_returning(alloc: Global, kind: &ItemKind) -> Result<ItemKind, AllocError>
+    ensures { IfOk result (λ last. last ≡ kind_not_returning kind.now) }
+{
+    match kind {
+        ItemKind::Code(instr, number) => {
+            Ok(ItemKind::Code(not_returning(alloc, instr)?, *number))
+        }
+        ItemKind::Mark(_, _) | ItemKind::Phi(_, _) => kind.copy(),
     }
 }
 
 /// The last item of code of a block; `closed` is whether control doesn't leave it.
-fn last_kind(closed: bool, kind: ItemKind) -> ItemKind
-    ensures { result ≡ last_kind closed kind }
+fn last_kind(alloc: Global, closed: bool, kind: &ItemKind) -> Result<ItemKind, AllocError>
+    ensures { IfOk result (λ last. last ≡ last_kind closed kind.now) }
 {
-    if !closed {
-        return kind;
-    }
-    match kind {
-        ItemKind::Code(instr, number) => ItemKind::Code(not_returning(instr), number),
-        ItemKind::Mark(variable, value) => ItemKind::Mark(variable, value),
-        ItemKind::Phi(place, number) => ItemKind::Phi(place, number),
-    }
-}
-
-/// Whether the last item of code of a block is a call that doesn't return.
-fn ends_gone(closed: bool, kind: &ItemKind) -> bool
-    ensures { result ≡ is_gone_call (last_kind closed kind.now) }
-{
-    match kind {
-        ItemKind::Code(instr, _) => {
-            if closed {
-                is_gone(op_not_returning(instr))
-            } else {
-                is_gone(instr.op)
-            }
-        }
-        ItemKind::Mark(_, _) | ItemKind::Phi(_, _) => false,
+    if closed {
+        kind_not_returning(alloc, kind)
+    } else {
+        kind.copy()
     }
 }
 
@@ -121,31 +151,37 @@ fn newer(code: bool, index: usize, found: Option<usize>) -> Option<usize>
 }
 
 /// The item with an index, if it is a call that doesn't return and that ends its block.
-fn last_item(items: &[Item], index: usize, closed: bool) -> Result<Option<Item>, AllocError>
+fn last_item(
+    alloc: Global,
+    items: &[Item],
+    index: usize,
+    closed: bool,
+) -> Result<Option<Item>, AllocError>
     ensures { IfOk result (λ item. item ≡ last_item closed (slice_get items.now index)) }
 {
     match items.get(index) {
-        Some(item) => {
-            if ends_gone(closed, &item.kind) {
-                Ok(Some(gone_item(item, closed)?))
-            } else {
-                Ok(None)
-            }
-        }
+        Some(item) => gone_item(alloc, item, closed),
         None => Ok(None),
     }
 }
 
-/// The item as the last item of code of its block.
-fn gone_item(item: &Item, closed: bool) -> Result<Item, AllocError>
-    ensures { IfOk result (λ gone. gone ≡ record item.now { kind = last_kind closed item.now.kind }) }
+/// The item as the last item of code of its block, if it is a call that doesn't return.
+fn gone_item(alloc: Global, item: &Item, closed: bool) -> Result<Option<Item>, AllocError>
+    ensures { IfOk result (λ gone. gone ≡ last_item closed (Some item.now)) }
 {
-    let Item { kind, origin, loc } = item.copy()?;
-    Ok(Item {
-        kind: last_kind(closed, kind),
-        origin,
-        loc,
-    })
+    if !closed && !is_gone_call(&item.kind) {
+        return Ok(None);
+    }
+    let kind = last_kind(alloc, closed, &item.kind)?;
+    if is_gone_call(&kind) {
+        Ok(Some(Item {
+            kind,
+            origin: item.origin,
+            loc: item.loc,
+        }))
+    } else {
+        Ok(None)
+    }
 }
 
 /// Items up to one, which takes the place of the one that is there.
@@ -179,7 +215,7 @@ fn ended_items(alloc: Global, items: &[Item], closed: bool) -> Result<Items, All
 {
     match last_code(items) {
         Some(index) => {
-            let item = last_item(items, index, closed)?;
+            let item = last_item(alloc, items, index, closed)?;
             cut_at(alloc, items, index, item)
         }
         None => copy_items(alloc, items),

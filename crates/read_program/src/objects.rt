@@ -65,7 +65,7 @@ fn instr_as(alloc: Global, ids: &FirstUseOrder, instr: &Instr) -> Result<Instr, 
 {
     let operands = operands_as(alloc, ids, instr.operands.as_slice())?;
     match Instr::new(instr.op, operands) {
-        Some(renamed) => Ok(renamed),
+        Some(renamed) => Ok(renamed.with_volatile(instr.volatile)),
         None => instr.copy(),
     }
 }

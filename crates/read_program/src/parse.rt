@@ -1,7 +1,7 @@
 //! The function in a document.
 
 ghost use Rattle.std.specs.Prelude.{◌≡◌, IfOk};
-ghost use Rattle.read_declarations.specs.Declarations.{declarations_of};
+ghost use Rattle.read_body.specs.read_declarations.Declarations.{declarations_of};
 ghost use Rattle.read_metadata.specs.Maps.{Maps};
 ghost use Rattle.read_documents.specs.declared.parts.FunctionDocument.{FunctionDocument};
 ghost use Rattle.read_program.specs.BodyLines.{body_of};
@@ -11,7 +11,9 @@ use crate::body::read_body;
 use crate::closing::{Parsed, close};
 use crate::error::ParseError;
 use read_body::body::Body;
-use read_declarations::declarations::{DeclarationError, Declarations, read_declarations};
+use read_body::read_declarations_crate::declarations::{
+    DeclarationError, Declarations, read_declarations,
+};
 use read_documents::parts::FunctionDocument;
 use read_metadata::metadata::Metadata;
 use read_refusal::first::{Refusal, comes_before};

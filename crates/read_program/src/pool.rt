@@ -2,6 +2,7 @@
 
 ghost use Rattle.std.specs.Prelude.{◌≡◌, ℕ, nat_eq, IfOk};
 ghost use Rattle.std.specs.List.{list_all, list_any};
+ghost use Rattle.mir_pool.specs.Pool.{constant_ids};
 ghost use Rattle.read_body.specs.FirstUseOrder.{is_met};
 ghost use Rattle.read_program.specs.Pool.{
   is_symbol_known,
@@ -12,6 +13,7 @@ ghost use Rattle.read_program.specs.Pool.{
 
 use mir_func::block::Block;
 use mir_func::item::{Item, ItemKind};
+use mir_pool::constant::PoolConstant;
 use read_body::first_use_order::FirstUseOrder;
 use rv64_instr::operand::Operand;
 use rv64_instr::symbol::Symbol;
@@ -40,6 +42,7 @@ fn is_operand_known(ids: &FirstUseOrder, operand: &Operand) -> bool
         | Operand::Slot(_)
         | Operand::Object(_)
         | Operand::Outgoing(_)
+        | Operand::GlobalRegisters
         | Operand::Block(_)
         | Operand::Symbol(_)
         | Operand::Mask => true,
@@ -79,21 +82,25 @@ fn are_among(ids: &FirstUseOrder, blocks: &[Block]) -> bool
     blocks.iter().all(|block| is_block_known(ids, block))
 }
 
-/// The set of these numbers.
-fn set_of(alloc: Global, ids: &[u32]) -> Result<FirstUseOrder, AllocError>
-    ensures { IfOk result (λ set. (n : ℕ) → is_met n set ≡ list_any (nat_eq n) ids.now) }
+/// The set of the numbers of these constants.
+fn set_of(alloc: Global, constants: &[PoolConstant]) -> Result<FirstUseOrder, AllocError>
+    ensures { IfOk result (λ set. (n : ℕ) → is_met n set ≡ list_any (nat_eq n) (constant_ids constants.now)) }
 {
     let mut set = FirstUseOrder::new(alloc);
-    for id in ids {
-        set.meet(u64::from(*id))?;
+    for constant in constants {
+        set.meet(u64::from(constant.id))?;
     }
     Ok(set)
 }
 
-/// Whether each constant that the code of these blocks names has one of these numbers.
-pub fn are_known(alloc: Global, ids: &[u32], blocks: &[Block]) -> Result<bool, AllocError>
-    ensures { IfOk result (λ known. known ≡ are_known ids.now blocks.now) }
+/// Whether each constant that the code of these blocks names is one of these.
+pub fn are_known(
+    alloc: Global,
+    constants: &[PoolConstant],
+    blocks: &[Block],
+) -> Result<bool, AllocError>
+    ensures { IfOk result (λ known. known ≡ are_known (constant_ids constants.now) blocks.now) }
 {
-    let set = set_of(alloc, ids)?;
+    let set = set_of(alloc, constants)?;
     Ok(are_among(&set, blocks))
 }

@@ -5,6 +5,7 @@ use Rattle.std.proofs.lemmas.Bool.{and_parts, leb-true}
 use Rattle.std.proofs.lemmas.List.Elements.{All-map, All-weaker}
 use Rattle.rv64_instr.specs.declared.operand.Operand.{Operand}
 use Rattle.rv64_instr.specs.declared.operand.Operand.TheVariants.{Def, Use, ImplicitDef, ImplicitUse, Imm, Slot, Object, Part, Outgoing, Block, Symbol, Mask}
+use Rattle.rv64_instr.specs.declared.operand.Operand.TheVariants.{GlobalRegisters}
 use Rattle.rv64_instr.specs.declared.symbol.Symbol.{Symbol as Linked}
 use Rattle.rv64_instr.specs.declared.symbol.Symbol.TheVariants.{Global, Constant as PoolConstant}
 use Rattle.rv64_instr.specs.Form.{IsSigned, is_within}
@@ -23,18 +24,18 @@ use Rattle.mir_func.specs.declared.variable.MarkValue.TheVariants.{Nothing, Cons
 use Rattle.mir_func.specs.Objects.{object_of}
 use Rattle.mir_func.specs.Sound.{HasForm}
 use Rattle.base_ids.specs.Limits.{MAX_NUMBER}
-use Rattle.read_item.specs.Debug.{inlined_at, inlined_at_node}
+use Rattle.read_program.specs.read_item.Debug.{inlined_at, inlined_at_node}
 use Rattle.read_declarations.specs.declared.stack.StackEntry.{StackEntry}
-use Rattle.read_body.specs.Body.{object_named}
+use Rattle.read_program.specs.read_body.Body.{object_named}
 use Rattle.rv64_instr.specs.LocationEffects.{object_named as row_object}
-use Rattle.read_body.specs.StackEntryKind.{objects_of, ids_of_objects}
-use Rattle.read_body.specs.FirstUseOrder.{is_met}
+use Rattle.read_program.specs.read_body.StackEntryKind.{objects_of, ids_of_objects}
+use Rattle.read_program.specs.read_body.FirstUseOrder.{is_met}
 use Rattle.read_program.specs.Closing.{entry_ids}
 use Rattle.read_program.specs.Objects.{operand_as, operands_as, is_object, place_as, kind_as}
 use Rattle.mir_printer.specs.Printable.{IsNumber, HasSymbolNumber, HasNumbers, IsAsDeclared, IsPrintableInstruction, IsPrintablePlace, IsPrintableValue}
 use Rattle.mir_printer.specs.Printable.{IsPrintableLoc, Declared}
 use Rattle.mir_printer.specs.Printable.{inlined_at as text_inlined_at, IsPrintableKind}
-use Rattle.read_item.specs.Opcode.{is_read}
+use Rattle.read_program.specs.read_item.Opcode.{is_read}
 use Rattle.read_program.specs.Limited.{SymbolIsLimited, IsLimited, ValueIsLimited, PlaceIsLimited, KindIsLimited, LocIsLimited, IsOperandOf, IsOfLanguage}
 use Rattle.read_program.proofs.Entries.{object_if_named, ids_are_objects}
 use Rattle.read_program.proofs.Items.{IsReadItem}
@@ -75,6 +76,7 @@ operand_numbers (Slot n) small = limited_number n small
 operand_numbers (Object n) small = limited_number n small
 operand_numbers (Part half y) small = record { symbol = symbol_number y.symbol small.symbol; addend = addend_signed y.addend small.addend }
 operand_numbers (Outgoing n) small = absurd small
+operand_numbers GlobalRegisters small = absurd small
 operand_numbers (Block n) small = limited_number n small
 operand_numbers (Symbol name) small = tt
 operand_numbers Mask small = tt
@@ -158,10 +160,12 @@ module _ (linked : Bool) (meta : Maps) (named : List ℕ) (es : List StackEntry)
 
   kind_language : (kind : ItemKind) → HasForm kind → IsOfLanguage linked kind → IsOfLanguage linked (kind_as ids kind)
   kind_language (Code i k) form is =
-      subst (λ (j : Instruction). All (IsOperandOf linked) j.operands × IsTrue (is_read linked j.op)) (sym (renamed ids i form)) (
+      subst (λ (j : Instruction). All (IsOperandOf linked) j.operands × IsTrue (is_read linked j.op) × (j.volatile ≡ true → linked ≡ true))
+      (sym (renamed ids i form)) (
         All-map (IsOperandOf linked) (operand_as ids) i.operands
             (All-weaker (IsOperandOf linked) (λ o. IsOperandOf linked (operand_as ids o)) operand_language i.operands is.0),
         is.1,
+        is.2,
       )
   kind_language (Mark v m) form is = tt
   kind_language (Phi p k) form is = tt

@@ -21,22 +21,22 @@ use Rattle.mir_func.specs.declared.item.ItemKind.{ItemKind}
 use Rattle.mir_func.specs.declared.location.Loc.{Loc}
 use Rattle.mir_func.specs.Sound.{ids_of}
 use Rattle.base_ids.specs.Limits.{MAX_NUMBER}
-use Rattle.read_line.specs.declared.form.BodyLine.{BodyLine}
-use Rattle.read_line.specs.declared.form.BodyLine.TheVariants as lines
-use Rattle.read_line.specs.declared.form.ItemForm.{ItemForm}
-use Rattle.read_line.specs.declared.form.FormError.{FormError}
-use Rattle.read_line.specs.declared.form.FormError.TheVariants as errors
-use Rattle.read_line.specs.Body.{closes_block, listing_of, is_listing, code_of, label_of, is_colon, labelled, as_item, sentence_of, line_of_tokens}
-use Rattle.read_line.specs.Body.{body_line_of}
-use Rattle.read_line.specs.Bracket.{behind_bracket}
-use Rattle.read_line.specs.Item.{item_of}
-use Rattle.read_item.specs.declared.judged.Judged.{Judged}
-use Rattle.read_item.specs.declared.judged.Judged.TheVariants as judged_as
-use Rattle.read_item.specs.declared.judged.JudgedItem.{JudgedItem}
-use Rattle.read_item.specs.Judge.{judged}
-use Rattle.read_body.specs.declared.body.Body.{Body}
-use Rattle.read_body.specs.Body.{nothing_read, label_cause, with_label, with_closed, item_cause, with_item}
-use Rattle.read_body.specs.FirstUseOrder.{is_met}
+use Rattle.read_program.specs.read_line.declared.form.BodyLine.{BodyLine}
+use Rattle.read_program.specs.read_line.declared.form.BodyLine.TheVariants as lines
+use Rattle.read_program.specs.read_line.declared.form.ItemForm.{ItemForm}
+use Rattle.read_program.specs.read_line.declared.form.FormError.{FormError}
+use Rattle.read_program.specs.read_line.declared.form.FormError.TheVariants as errors
+use Rattle.read_program.specs.read_line.Body.{closes_block, listing_of, is_listing, code_of, label_of, is_colon, labelled, as_item, sentence_of, line_of_tokens}
+use Rattle.read_program.specs.read_line.Body.{is_volatile, volatile_read, body_line_of}
+use Rattle.read_program.specs.read_line.Bracket.{behind_bracket}
+use Rattle.read_program.specs.read_line.Item.{item_of}
+use Rattle.read_program.specs.read_item.declared.judged.Judged.{Judged}
+use Rattle.read_program.specs.read_item.declared.judged.Judged.TheVariants as judged_as
+use Rattle.read_program.specs.read_item.declared.judged.JudgedItem.{JudgedItem}
+use Rattle.read_program.specs.read_item.Judge.{judged}
+use Rattle.read_program.specs.read_body.declared.body.Body.{Body}
+use Rattle.read_program.specs.read_body.Body.{nothing_read, label_cause, with_label, with_closed, item_cause, with_item}
+use Rattle.read_program.specs.read_body.FirstUseOrder.{is_met}
 use Rattle.read_program.specs.Objects.{blocks_as}
 use Rattle.read_program.specs.BodyLines.{unless, one_said, judged_said, item_said, line_said, behind_line, and_then, body_behind, lines_of_body, ended, body_of}
 use Rattle.read_program.specs.Ends.{with_ends}
@@ -89,12 +89,22 @@ listing_small : (b : Bool) → HasSmallLabel (Ok (cond b lines.Closed lines.Pass
 listing_small true = tt
 listing_small false = tt
 
+volatile_small : (read : Result BodyLine FormError) → HasSmallLabel read → HasSmallLabel (volatile_read read)
+volatile_small (Ok (lines.Label (Some n))) small = small
+volatile_small (Ok (lines.Label None)) small = tt
+volatile_small (Ok lines.Passed) small = tt
+volatile_small (Ok lines.Closed) small = tt
+volatile_small (Ok (lines.Item form)) small = tt
+volatile_small (Err e) small = tt
+
 line_small : (linked : Bool) (text : List ℕ) → HasSmallLabel (body_line_of linked text)
 unfolding body_line_of
 line_small linked text =
-    either (is_listing text) (Ok (listing_of linked text)) (line_of_tokens linked (code_of text) (tokens_of (code_of text)))
+    let read : Result BodyLine FormError = line_of_tokens linked (code_of text) (tokens_of linked (code_of text)) in
+    let small = tokens_small linked (code_of text) (tokens_of linked (code_of text)) in
+    either (is_listing text) (Ok (listing_of linked text)) (cond (linked && is_volatile text) (volatile_read read) read)
     (listing_small (linked && closes_block text))
-    (tokens_small linked (code_of text) (tokens_of (code_of text)))
+    (either (linked && is_volatile text) (volatile_read read) read (volatile_small read small) small)
 
 -- ---- bodies
 

@@ -16,11 +16,12 @@ use Rattle.read_documents.specs.Documents.{inside, is_closed, is_complete, first
 use Rattle.read_documents.specs.Documents.{documents_from, documents_of}
 use Rattle.mir_func.specs.Function.{Function}
 use Rattle.mir_func.specs.Sound.{AllItems}
+use Rattle.mir_pool.specs.Pool.{constant_ids}
 use Rattle.read_declarations.specs.declared.declarations.Declarations.{Declarations}
 use Rattle.read_declarations.specs.Declarations.{declarations_of}
-use Rattle.read_body.specs.declared.body.Body.{Body}
-use Rattle.read_body.specs.Body.{blocks_of}
-use Rattle.read_body.specs.Closing.{blocks_go_to, all_met}
+use Rattle.read_program.specs.read_body.declared.body.Body.{Body}
+use Rattle.read_program.specs.read_body.Body.{blocks_of}
+use Rattle.read_program.specs.read_body.Closing.{blocks_go_to, all_met}
 use Rattle.read_program.specs.declared.closing.Parsed.{Parsed}
 use Rattle.read_program.specs.declared.error.ParseError.{ParseError}
 use Rattle.read_program.specs.declared.program.Program.{Program}
@@ -101,7 +102,7 @@ parts_language : (meta : Maps) (doc : FunctionDocument) (declared : Result Decla
     declarations_of doc ≡ declared → body_of doc.linked meta doc.body ≡ body → ParsesParts doc.closed declared body (Ok p) → Has doc.linked p
 parts_language meta doc (Ok d) (Ok body) p said is closes =
     let met = all_declared (blocks_go_to body.ids (blocks_of body)) (all_met (entry_ids d.stack) body.entries)
-    (are_known d.pool (blocks_of body) && is_some (parts_of body.objects d.stack (blocks_of body))) closes.0 in
+    (are_known (constant_ids d.pool) (blocks_of body) && is_some (parts_of body.objects d.stack (blocks_of body))) closes.0 in
     subst (λ (f : Function). AllItems (λ i. IsOfLanguage doc.linked i.kind) f.blocks) (sym closes.1)
     (function_language doc.linked meta d body (declared_if_met (entry_ids d.stack) body.entries met) (body_reads doc.linked meta doc.body body is))
 parts_language meta doc (Err r) (Ok body) p said is closes = absurd closes

@@ -176,7 +176,7 @@ line_limited : (line : List ℕ) → IfSome (node_of_line line) EntryIsLimited
 unfolding node_of_line
 line_limited [] = tt
 line_limited (b ∷ bs) =
-    one_of EntryIsLimited (eqb b 33) (node_of_tokens (b ∷ bs) (tokens_of (b ∷ bs))) None (tokens_limited (b ∷ bs) (tokens_of (b ∷ bs))) tt
+    one_of EntryIsLimited (eqb b 33) (node_of_tokens (b ∷ bs) (tokens_of false (b ∷ bs))) None (tokens_limited (b ∷ bs) (tokens_of false (b ∷ bs))) tt
 
 -- ---- metadata
 

@@ -30,8 +30,8 @@ use Rattle.read_declarations.specs.Stack.{is_alignment, entry_with, unsized, sta
 use Rattle.read_declarations.specs.Stack.{shared}
 use Rattle.read_declarations.specs.Stream.{text_at}
 use Rattle.read_declarations.specs.Substitutions.{pair_of, substitution_with, substitution_of, substituted, substitutions_behind}
-use Rattle.read_body.specs.declared.stack_entry_kind.ObjectLayout.{ObjectLayout}
-use Rattle.read_body.specs.StackEntryKind.{is_stack_object, with_slot, slots_behind, slots_of, laid_at, with_object, objects_behind, local_block, objects_of}
+use Rattle.read_program.specs.read_body.declared.stack_entry_kind.ObjectLayout.{ObjectLayout}
+use Rattle.read_program.specs.read_body.StackEntryKind.{is_stack_object, with_slot, slots_behind, slots_of, laid_at, with_object, objects_behind, local_block, objects_of}
 use Rattle.read_proof.specs.Read.{PairIsLimited, EntryIsLimited}
 use Rattle.read_proof.proofs.Nodes.{Small, one_of, integer_small}
 

@@ -22,14 +22,15 @@ use Rattle.mir_func.specs.declared.item.Item.{Item}
 use Rattle.mir_func.specs.declared.item.ItemKind.{ItemKind}
 use Rattle.mir_func.specs.declared.location.Loc.{Loc}
 use Rattle.mir_func.specs.Sound.{AreApart, AllItems, IsSound, HasForm}
+use Rattle.mir_pool.specs.Pool.{constant_ids}
 use Rattle.read_declarations.specs.declared.declarations.Declarations.{Declarations}
 use Rattle.read_declarations.specs.Declarations.{declarations_of}
-use Rattle.read_item.specs.Debug.{inlined_at_node}
-use Rattle.read_body.specs.declared.body.Body.{Body}
-use Rattle.read_body.specs.Body.{blocks_of}
-use Rattle.read_body.specs.Closing.{blocks_go_to, all_met}
-use Rattle.read_body.specs.StackEntryKind.{ids_of_objects}
-use Rattle.read_body.specs.FirstUseOrder.{is_met}
+use Rattle.read_program.specs.read_item.Debug.{inlined_at_node}
+use Rattle.read_program.specs.read_body.declared.body.Body.{Body}
+use Rattle.read_program.specs.read_body.Body.{blocks_of}
+use Rattle.read_program.specs.read_body.Closing.{blocks_go_to, all_met}
+use Rattle.read_program.specs.read_body.StackEntryKind.{ids_of_objects}
+use Rattle.read_program.specs.read_body.FirstUseOrder.{is_met}
 use Rattle.read_program.specs.declared.closing.Parsed.{Parsed}
 use Rattle.read_program.specs.declared.error.ParseError.{ParseError}
 use Rattle.read_program.specs.declared.program.Program.{Program}
@@ -116,7 +117,7 @@ parts_read : (meta : Maps) (doc : FunctionDocument) (declared : Result Declarati
     declarations_of doc ≡ declared → body_of doc.linked meta doc.body ≡ body → ParsesParts doc.closed declared body (Ok p) → IsRead meta p
 parts_read meta doc (Ok d) (Ok body) p said is closes =
     let met = all_declared (blocks_go_to body.ids (blocks_of body)) (all_met (entry_ids d.stack) body.entries)
-    (are_known d.pool (blocks_of body) && is_some (parts_of body.objects d.stack (blocks_of body))) closes.0 in
+    (are_known (constant_ids d.pool) (blocks_of body) && is_some (parts_of body.objects d.stack (blocks_of body))) closes.0 in
     let declares = declares_small doc d said in
     record {
       function = subst (IsReadFunction meta) (sym closes.1)

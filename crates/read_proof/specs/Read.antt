@@ -9,8 +9,8 @@ use Rattle.mir_func.specs.Objects.{object_of, HasNoFixed}
 use Rattle.mir_func.specs.Sound.{AllItems, items_of, IsSound, HasForm}
 use Rattle.base_ids.specs.Limits.{MAX_NUMBER}
 use Rattle.sem_mir.specs.Follow.{IsRead}
-use Rattle.read_item.specs.Debug.{inlined_at_node}
-use Rattle.read_body.specs.Limits.{MAX_ITEMS}
+use Rattle.read_program.specs.read_item.Debug.{inlined_at_node}
+use Rattle.read_program.specs.read_body.Limits.{MAX_ITEMS}
 use Rattle.read_program.specs.declared.closing.Parsed.{Parsed}
 use Rattle.read_program.specs.declared.program.Program.{Program}
 use Rattle.read_program.specs.Limited.{KindIsLimited, LocIsLimited, IsOfLanguage}

@@ -2,4 +2,6 @@
 //! does nothing.
 #![tactic(auto)]
 
+pub use read_program as read_program_crate;
+
 pub mod laws;

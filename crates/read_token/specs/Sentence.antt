@@ -1,9 +1,9 @@
 -- The lexeme of each token.
 use Rattle.std.specs.Prelude.{ℕ, ◌==◌, if◌then◌else◌, codes, drop, map, List}
 use Rattle.std.specs.Str.{bytes_eq}
-use Rattle.read_lexer.specs.declared.parts.Class.{Class}
-use Rattle.read_lexer.specs.declared.parts.Class.TheVariants as classes
-use Rattle.read_lexer.specs.declared.parts.Token.{Token}
+use Rattle.read_metadata.specs.read_lexer.declared.parts.Class.{Class}
+use Rattle.read_metadata.specs.read_lexer.declared.parts.Class.TheVariants as classes
+use Rattle.read_metadata.specs.read_lexer.declared.parts.Token.{Token}
 use Rattle.read_metadata.specs.Token.{text_of}
 use Rattle.read_metadata.specs.Definition.{name_of}
 use Rattle.read_token.specs.declared.lexeme.Lexeme.{Lexeme}
@@ -44,6 +44,7 @@ lexeme_by classes.Node t text = lexemes.Node (node_of text)
 lexeme_by classes.Kind t text = kind_of text
 lexeme_by classes.Symbol t text = lexemes.Symbol t
 lexeme_by classes.Integer t text = lexemes.Integer (number_of text)
+lexeme_by classes.Float t text = lexemes.Float
 lexeme_by classes.Text t text = lexemes.Other
 lexeme_by (classes.Single byte) t text = single_of byte
 

@@ -3,8 +3,8 @@
 use base_ids::function_ids::{BlockId, SlotId};
 use base_ids::metadata::NodeId;
 use base_list::List;
-use read_lexer::parts::Token;
-use rv64_instr::reg::Reg;
+use read_metadata::read_lexer_crate::parts::Token;
+use read_metadata::rv64_instr_crate::reg::Reg;
 
 /// The value that replaces every number above the limit, or below 0: 2^30. The greatest number within the limit is
 /// one less.
@@ -114,6 +114,8 @@ pub enum Lexeme {
     InlineLocation,
     /// An integer.
     Integer(Number),
+    /// A floating-point literal.
+    Float,
     /// A symbol, by its token.
     Symbol(Token),
     /// `,`

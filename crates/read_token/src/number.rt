@@ -4,8 +4,8 @@ ghost use Rattle.std.specs.Prelude.{◌≡◌, ◌+◌, ◌*◌, ◌^◌, ◌<�
 ghost use Rattle.read_token.specs.Number.{BEYOND, narrow_value, limited, is_number, unsigned, negated, sized, number_of};
 
 use crate::lexeme::{BEYOND, Number};
-use read_lexer::bytes::digits;
 use read_metadata::number::digit_value;
+use read_metadata::read_lexer_crate::bytes::digits;
 
 /// The value with one more digit, unless it is 2^128 or more.
 fn longer(base: u128, value: u128, digit: u8) -> Option<u128>

@@ -24,7 +24,7 @@ use crate::lexeme::{Lexeme, RegisterName};
 use crate::number::{is_number, limited};
 use crate::word::named_number;
 use base_ids::function_ids::{BlockId, SlotId};
-use rv64_instr::reg::{Reg, physical};
+use read_metadata::rv64_instr_crate::reg::{Reg, physical};
 
 /// The register whose number is spelled with two digits.
 fn two_digits(tens: u8, ones: u8) -> Option<Reg>

@@ -10,7 +10,7 @@ use crate::register::{percent, register};
 use crate::word::word;
 use base_ids::metadata::NodeId;
 use base_list::List;
-use read_lexer::parts::{Class, Token};
+use read_metadata::read_lexer_crate::parts::{Class, Token};
 use std::alloc::{AllocError, Global};
 
 /// The bytes of a line that a token spans, up to the end of the line.
@@ -76,6 +76,7 @@ fn lexeme(line: &[u8], token: Token) -> Lexeme
         Class::Kind => kind(text),
         Class::Symbol => Lexeme::Symbol(token),
         Class::Integer => Lexeme::Integer(number(text)),
+        Class::Float => Lexeme::Float,
         Class::Text => Lexeme::Other,
         Class::Single(byte) => single(byte),
     }

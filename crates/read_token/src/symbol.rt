@@ -6,9 +6,9 @@ ghost use Rattle.read_token.specs.Sentence.{symbol_name};
 
 use crate::sentence::text_of;
 use base_list::List;
-use read_lexer::parts::Token;
+use read_metadata::read_lexer_crate::parts::Token;
+use read_metadata::rv64_instr_crate::name::Name;
 use read_metadata::text::{inside_quotes, unescaped};
-use rv64_instr::name::Name;
 use std::alloc::{AllocError, Global};
 
 /// The name of a symbol, from the text after its `@` or `&`.

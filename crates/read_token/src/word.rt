@@ -19,7 +19,7 @@ ghost use Rattle.read_token.specs.Word.{
 use crate::lexeme::{Flag, Word};
 use crate::number::{is_number, limited};
 use base_ids::function_ids::BlockId;
-use read_lexer::bytes::digits;
+use read_metadata::read_lexer_crate::bytes::digits;
 
 /// Whether a word is a register flag that is ignored.
 #[tactic(auto, unfolding(crate::specs::Word::is_plain))]

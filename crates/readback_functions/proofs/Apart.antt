@@ -47,13 +47,13 @@ or_false true b e f = absurd cc
 or_false false b e f = f
 
 -- another number between others
-met_between : (n m : ℕ) (xs ys : List ℕ) → eqb n m ≡ false → is_met n (xs ++ ys) ≡ false → is_met n (xs ++ m ∷ ys) ≡ false
+pub met_between : (n m : ℕ) (xs ys : List ℕ) → eqb n m ≡ false → is_met n (xs ++ ys) ≡ false → is_met n (xs ++ m ∷ ys) ≡ false
 met_between n m [] ys other none = or_false (eqb n m) (is_met n ys) other none
 met_between n m (x ∷ xs) ys other none =
     let parts = or_parts (eqb n x) (is_met n (xs ++ ys)) none in
     or_false (eqb n x) (is_met n (xs ++ m ∷ ys)) parts.0 (met_between n m xs ys other parts.1)
 
-once_between : (m : ℕ) (xs ys : List ℕ) → is_met m (xs ++ ys) ≡ false → Once (xs ++ ys) → Once (xs ++ m ∷ ys)
+pub once_between : (m : ℕ) (xs ys : List ℕ) → is_met m (xs ++ ys) ≡ false → Once (xs ++ ys) → Once (xs ++ m ∷ ys)
 once_between m [] ys none once = (none, once)
 once_between m (x ∷ xs) ys none once =
     let parts = or_parts (eqb m x) (is_met m (xs ++ ys)) none in

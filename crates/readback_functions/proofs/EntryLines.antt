@@ -101,7 +101,7 @@ pub record IsRead (ps : List Piece) : Type 0 where
   pub all : AllRead ps
   pub passes : AllPass (59 ∷ []) ps
 
-pub mark_reads : (blanks b : ℕ) (ps : List Piece) → ((at : ℕ) (after : List ℕ) → token_at at b after ≡ token (Single b) at 1) → is_blank b ≡ false →
+pub mark_reads : (blanks b : ℕ) (ps : List Piece) → ((at : ℕ) (after : List ℕ) → token_at false at b after ≡ token (Single b) at 1) → is_blank b ≡ false →
     is_safe b ≡ true → IsRead ps → IsRead (mark blanks b ∷ ps)
 mark_reads blanks b ps alone visible safe is = record {
   all = (single_read b (spelled ps) alone visible, is.all);

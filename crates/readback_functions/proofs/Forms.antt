@@ -166,7 +166,7 @@ cut_bytes mark quote (b ∷ bs) bytes =
 pub line_bytes : (text : List ℕ) (form : ItemForm) → AreBytes text → body_line_of false text ≡ Ok (Item form) → AllOf FormBytes form.operands
 unfolding body_line_of
 line_bytes text form bytes e =
-    tokens_are (code_of text) (cut_bytes (codes "::") None (before_comment text) (cut_bytes (codes ";") None text bytes)) (tokens_of (code_of text)) form
-    (if_ok (is_listing text) (Ok Passed) (line_of_tokens false (code_of text) (tokens_of (code_of text))) (Ok (Item form)) e passed_no_item) where
+    tokens_are (code_of text) (cut_bytes (codes "::") None (before_comment text) (cut_bytes (codes ";") None text bytes)) (tokens_of false (code_of text)) form
+    (if_ok (is_listing text) (Ok Passed) (line_of_tokens false (code_of text) (tokens_of false (code_of text))) (Ok (Item form)) e passed_no_item) where
       passed_no_item : ◌≡◌ {A = Result BodyLine FormError} (Ok Passed) (Ok (Item form)) → ⊥
       passed_no_item e = cc

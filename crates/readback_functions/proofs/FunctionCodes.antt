@@ -116,6 +116,7 @@ pub record IsKnownCode (entries : List ℕ) (c : Instruction) : Type 0 where
   pub pointer : All IsNotPointer c.operands
   pub few : length c.operands ≤ MAX_OPERANDS
   pub read : IsTrue (is_read false c.op)
+  pub plain : c.volatile ≡ true → false ≡ true
 
 abbrev pub KnownKind : List ℕ → ItemKind → Type 0
 KnownKind entries (Code c k) = IsKnownCode entries c
@@ -149,6 +150,7 @@ item_known meta end kind loc line j text says means kind_is loc_is entries =
           pointer = all.pointer;
           few = few_operands is.op line c (code_line is.op line c is.is);
           read = all.language.1;
+          plain = all.language.2;
         }
 
 -- ---- code where stack entries are objects
@@ -197,6 +199,9 @@ module _ (ids entries : List ℕ) (c : Instruction) (is : IsKnownCode entries c)
   pub code_read : IsTrue (is_read false (instr_as ids c).op)
   code_read = subst (λ (i : Instruction). IsTrue (is_read false i.op)) (sym (renamed ids c is.form)) is.read
 
+  pub code_plain : (instr_as ids c).volatile ≡ true → false ≡ true
+  code_plain = subst (λ (i : Instruction). i.volatile ≡ true → false ≡ true) (sym (renamed ids c is.form)) is.plain
+
   pub code_named : All (NamesAmong entries) (instr_as ids c).operands
   code_named = all_as (NamesAmong entries) ids c is.form (operand_named ids entries) is.named
 
@@ -219,4 +224,4 @@ same_operands ids others same (o ∷ os) = λ i. same_operand ids others same o 
 
 pub same_code : (ids others : List ℕ) → ((n : ℕ) → is_met n ids ≡ is_met n others) → (c : Instruction) → instr_as ids c ≡ instr_as others c
 same_code ids others same c =
-    ap (λ (os : List Operand). cond (has_form c.op os) (record { op = c.op; operands = os }) c) (same_operands ids others same c.operands)
+    ap (λ (os : List Operand). cond (has_form c.op os) (record c { operands = os }) c) (same_operands ids others same c.operands)

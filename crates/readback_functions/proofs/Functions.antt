@@ -12,6 +12,7 @@ use Rattle.read_metadata.specs.Maps.{Maps}
 use Rattle.base_ids.specs.Limits.{MAX_NUMBER}
 use Rattle.read_lexer.specs.declared.line.Line.{Line}
 use Rattle.read_documents.specs.declared.parts.FunctionDocument.{FunctionDocument}
+use Rattle.mir_exposure.specs.declared.exposure.Exposure.TheVariants.{Nothing}
 use Rattle.mir_func.specs.declared.block.Block.{Block}
 use Rattle.mir_func.specs.declared.item.Item.{Item}
 use Rattle.mir_func.specs.declared.item.ItemKind.TheVariants.{Code}
@@ -21,6 +22,7 @@ use Rattle.mir_func.specs.Objects.{object_of}
 use Rattle.mir_func.specs.Sound.{AllItems, items_of, number_of, IsSound}
 use Rattle.mir_func.specs.Strip.{stripped_block, stripped}
 use Rattle.mir_func.proofs.Stripping.{stripped_sound}
+use Rattle.mir_pool.specs.Pool.{constant_ids}
 use Rattle.read_declarations.specs.declared.declarations.Declarations.{Declarations}
 use Rattle.read_declarations.specs.Declarations.{fixed_refusal, checked, declarations_of}
 use Rattle.read_declarations.specs.FlowMapping.{entries_from}
@@ -62,7 +64,8 @@ use Rattle.readback_functions.specs.Known.{IsKnown}
 use Rattle.readback_functions.proofs.Known.{bodies_are_known}
 use Rattle.readback_functions.specs.Stripped.{placed_block, placed, document_of, HasNamesOfBytes, IsReadAgain, StrippedReadsBack}
 use Rattle.readback_functions.proofs.FunctionDocuments.{document_is}
-use Rattle.readback_functions.proofs.FunctionCodes.{KnownKind, IsKnownItem, item_known, code_limited, code_language, code_read, code_named, code_is}
+use Rattle.readback_functions.proofs.FunctionCodes.{KnownKind, IsKnownItem, item_known, code_limited, code_language, code_read, code_plain, code_named}
+use Rattle.readback_functions.proofs.FunctionCodes.{code_is}
 use Rattle.readback_functions.proofs.Bodies.{left_blocks, blocks_left, fewer, ids_left, blocks_named, blocks_go, blocks_read, all_stay, all_end, last_placed}
 use Rattle.readback_functions.proofs.Bodies.{code_declared, all_declared}
 
@@ -106,7 +109,7 @@ closes_all d body none =
       parts = parts_of body.objects d.stack (blocks_of body)
 
       known : Bool
-      known = are_known d.pool (blocks_of body)
+      known = are_known (constant_ids d.pool) (blocks_of body)
 
       by : (a b c : Bool) → blocks_go_to body.ids (blocks_of body) ≡ a → all_met (entry_ids d.stack) body.entries ≡ b → (known && is_some parts) ≡ c →
           cond a (cond (b && c) None (Some StackObject)) (Some UnknownBlock) ≡ None → ClosesAll d body
@@ -208,7 +211,11 @@ module _ (meta : Maps) (doc : FunctionDocument) (d : Declarations) (body : Body)
       (λ c k o l q. record {
         writable = record {
           kind = (code_limited ids body.entries c q.0.kind_is, tt);
-          language = (code_language ids body.entries c q.0.kind_is, code_read ids body.entries c q.0.kind_is);
+          language = (
+            code_language ids body.entries c q.0.kind_is,
+            code_read ids body.entries c q.0.kind_is,
+            code_plain ids body.entries c q.0.kind_is,
+          );
           loc = q.0.place;
           names = q.1;
         };
@@ -263,7 +270,7 @@ module _ (meta : Maps) (doc : FunctionDocument) (d : Declarations) (body : Body)
   frame = frames_read_back body.objects body2.objects d.stack entries same_named
 
   abbrev declared2 : Declarations
-  declared2 = record { name = d.name; stack = entries_again body.objects d.stack; substitutions = []; pool = [] }
+  declared2 = record { name = d.name; stack = entries_again body.objects d.stack; substitutions = []; pool = []; exposure = Nothing }
 
   abbrev ids2 : List ℕ
   ids2 = ids_of_objects body2.objects declared2.stack
@@ -286,7 +293,7 @@ module _ (meta : Maps) (doc : FunctionDocument) (d : Declarations) (body : Body)
       let stack = stacks_read_back (n + 2) f.slots f.objects frame.declared.each frame.declared.several frame.declared.apart
       frame.declared.few in
       λ i. checked (earlier (earlier (earlier (name i).refused (stack i).refused) (earlier (no_fixed i) (no_substitutions i).refused)) None)
-      (record { name = (name i).name; stack = (stack i).entries; substitutions = (no_substitutions i).entries; pool = [] })
+      (record { name = (name i).name; stack = (stack i).entries; substitutions = (no_substitutions i).entries; pool = []; exposure = Nothing })
 
   -- ---- its close
 
@@ -319,12 +326,14 @@ module _ (meta : Maps) (doc : FunctionDocument) (d : Declarations) (body : Body)
   ends : EndWell (function_of declared2 body2).blocks
   ends = subst EndWell (sym blocks) (all_end sb bared.ends, last_placed sb bared.last)
 
-  function_read : Parses again (document_at n (document_of (stripped f))) (Ok (record { func = placed (stripped f); subs = [] }))
+  function_read : Parses again (document_at n (document_of (stripped f)))
+      (Ok (record { func = placed (stripped f); subs = []; pool = []; exposure = Nothing }))
   function_read =
       let doc2 = document_at n (document_of (stripped f)) in
-      let answer : Result Parsed ParseError = Ok (record { func = placed (stripped f); subs = [] }) in
+      let answer : Result Parsed ParseError = Ok (record { func = placed (stripped f); subs = []; pool = []; exposure = Nothing }) in
       subst (λ (r : Result Declarations Refusal). ParsesParts doc2.closed r (body_of false again doc2.body) answer) (sym declares)
-      (subst (λ (r : Result Body Refusal). ParsesParts doc2.closed (Ok declared2) r answer) (sym reads.read) (none, sym same_function, refl, ends))
+      (subst (λ (r : Result Body Refusal). ParsesParts doc2.closed (Ok declared2) r answer) (sym reads.read)
+      (none, sym same_function, refl, ends, refl, refl))
 
 module _ (meta : Maps) (doc : FunctionDocument) (d : Declarations) (body : Body) (p : Parsed) (declared : declarations_of doc ≡ Ok d)
     (plain : doc.linked ≡ false) (read : body_of false meta doc.body ≡ Ok body) (closes : Closes doc.closed d body (Ok p))
@@ -337,6 +346,7 @@ module _ (meta : Maps) (doc : FunctionDocument) (d : Declarations) (body : Body)
         language = (
           code_language (ids_of_objects body.objects d.stack) body.entries c q.0.kind_is,
           code_read (ids_of_objects body.objects d.stack) body.entries c q.0.kind_is,
+          code_plain (ids_of_objects body.objects d.stack) body.entries c q.0.kind_is,
         );
         loc = q.0.place;
         names = q.1;
@@ -352,7 +362,7 @@ module _ (meta : Maps) (doc : FunctionDocument) (d : Declarations) (body : Body)
       document_is d.name (function_of d body).slots (function_of d body).objects (left_blocks (ids_of_objects body.objects d.stack) (blocks_of body)) names.name
       frame.declared.each (within meta doc d body p declared plain read closes names meta 0).ids written
 
-  read_again : IsReadAgain (record { func = function_of d body; subs = p.subs })
+  read_again : IsReadAgain (record { func = function_of d body; subs = p.subs; pool = p.pool; exposure = p.exposure })
   read_again = record {
     document = is_document;
     parses = λ again n. function_read meta doc d body p declared plain read closes names again n;
@@ -362,7 +372,7 @@ by_parts : (meta : Maps) (doc : FunctionDocument) (p : Parsed) (d : Result Decla
     declarations_of doc ≡ d → doc.linked ≡ false → body_of false meta doc.body ≡ body → ParsesParts doc.closed d body (Ok p) → HasNamesOfBytes p.func →
     IsReadAgain p
 by_parts meta doc p (Ok d) (Ok body) declared plain read closes names =
-    subst (λ (g : Function). IsReadAgain (record { func = g; subs = p.subs })) (sym closes.1)
+    subst (λ (g : Function). IsReadAgain (record { func = g; subs = p.subs; pool = p.pool; exposure = p.exposure })) (sym closes.1)
     (read_again meta doc d body p declared plain read closes (subst HasNamesOfBytes closes.1 names))
 by_parts meta doc p (Ok d) (Err s) declared plain read refused names = absurd refused
 by_parts meta doc p (Err r) (Ok body) declared plain read refused names = absurd refused

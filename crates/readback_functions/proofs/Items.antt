@@ -10,7 +10,7 @@ use Rattle.std.proofs.lemmas.Bool.Decides.{nat_tests}
 use Rattle.std.proofs.lemmas.List.Elements.{All-head, All-tail, All-filter, All-weaker}
 use Rattle.rv64_instr.specs.declared.operand.Operand.{Operand}
 use Rattle.rv64_instr.specs.declared.operand.Operand.TheVariants.{Def, Use, ImplicitDef, ImplicitUse, Imm, Slot, Object, Part, Block as OfBlock, Symbol, Mask}
-use Rattle.rv64_instr.specs.declared.operand.Operand.TheVariants.{Outgoing}
+use Rattle.rv64_instr.specs.declared.operand.Operand.TheVariants.{Outgoing, GlobalRegisters}
 use Rattle.rv64_instr.specs.Instruction.{Instruction}
 use Rattle.rv64_instr.specs.Mnemonic.{mnemonic_of}
 use Rattle.base_ids.specs.Limits.{MAX_NUMBER}
@@ -24,6 +24,7 @@ use Rattle.mir_func.specs.declared.location.Loc.TheVariants.{Absent, Node, Inlin
 use Rattle.read_item.specs.Opcode.{is_read}
 use Rattle.read_program.specs.Limited.{KindIsLimited, LocIsLimited, IsOfLanguage}
 use Rattle.read_program.proofs.Operands.{IsLimitedIn, all_in_language}
+use Rattle.readback_items.proofs.Said.{plain_text}
 use Rattle.read_program.proofs.Lists.{both}
 use Rattle.mir_printer.specs.Spelling.{comma_separated, is_bare, quoted_byte, symbol_text, register_text, operand_text, is_definition}
 use Rattle.mir_printer.specs.Spelling.{definitions_text}
@@ -60,6 +61,7 @@ operand_shows (Slot n) small bytes = shows_behind (codes "%stack.") (decimal n) 
 operand_shows (Object n) small bytes = shows_behind (codes "%stack.") (decimal n) refl (number_shows n small)
 operand_shows (Part half y) small bytes = absurd (false≢true small.0)
 operand_shows (Outgoing n) small bytes = absurd small
+operand_shows GlobalRegisters small bytes = absurd small
 operand_shows (OfBlock n) small bytes = shows_behind (codes "%bb.") (decimal n) refl (number_shows n small)
 operand_shows (Symbol name) small bytes = symbol_shows name bytes
 operand_shows Mask small bytes = record { printed = refl; ends = λ so_far. refl }
@@ -173,5 +175,6 @@ pub block_lines_are_printed : BlockLinesArePrinted
 block_lines_are_printed = record {
   labels = λ n small. line_of (label_line n) (shows_behind (codes "  bb." ++ decimal n) (codes ":")
       (shows_behind (codes "  bb.") (decimal n) refl (number_shows n small)).printed (record { printed = refl; ends = λ so_far. refl }));
-  items = λ i is. line_of (item_line i) (item_shows i.kind i.loc is.kind is.language is.names is.loc);
+  items = λ i is. line_of (item_line i)
+      (subst (λ (t : List ℕ). Shows (codes "    " ++ t)) (sym (plain_text i is.language)) (item_shows i.kind i.loc is.kind is.language is.names is.loc));
 }

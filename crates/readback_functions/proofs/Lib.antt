@@ -7,6 +7,7 @@ pub mod EntryLines
 mod ObjectLines
 pub mod Stacks
 pub mod Apart
+pub mod Pools
 pub mod Frames
 pub mod Known
 pub mod Texts
@@ -23,3 +24,6 @@ pub mod Names
 pub mod Forms
 pub mod NameCodes
 pub mod NameFunctions
+pub mod Exposed
+pub mod PoolsKnown
+pub use Rattle.read_proof.proofs as read_proof

@@ -49,7 +49,7 @@ unfolding stream_from
 stream_is at n [] all = refl
 stream_is at n (ps ∷ pss) all =
     let others = stream_from (at + 1) (lines_from (n + 1) (map spelled pss)) in
-    ap (λ (t : List ℕ). with_line at n (line_tokens_of t (tokens_of t)) others) (pieces_pass (59 ∷ []) semicolon_mark ps all.0.passes)
+    ap (λ (t : List ℕ). with_line at n (line_tokens_of t (tokens_of false t)) others) (pieces_pass (59 ∷ []) semicolon_mark ps all.0.passes)
     ∙ (ap (λ (r : Result (List Token) LexError). with_line at n (line_tokens_of (spelled ps) r) others) (line_tokens ps all.0.reads)
     ∙ ap (λ (s : TokenStream). with_line at n (record { tokens = tokens_at 0 ps; fault = None }) s) (stream_is (at + 1) (n + 1) pss all.1))
 

@@ -25,7 +25,7 @@ use Rattle.read_item.specs.declared.place.OperandKind.{OperandKind}
 use Rattle.read_item.specs.declared.place.OperandKind.TheVariants as place
 use Rattle.read_item.specs.Code.{number_of, used, stack_operand, number_operand, operand_at, before, joined, set_by, definition, definitions, placed, places_of}
 use Rattle.read_item.specs.Code.{operands_of, stand_in, half_operand, called, callee_register, callee_operand, placed_behind_callee}
-use Rattle.read_item.specs.Code.{has_register_callee, placed_by}
+use Rattle.read_item.specs.Code.{has_implicit_callee, placed_by}
 use Rattle.read_item.specs.Judge.{judged}
 use Rattle.read_item.specs.Place.{front, behind}
 use Rattle.read_body.specs.FirstUseOrder.{is_met}
@@ -144,7 +144,7 @@ behind_callee_are ps (o ∷ os) xs is e =
 
 placed_by_are : (op : Op) (ps : List OperandKind) (os : List OperandForm) (xs : List Operand) → AllOf FormBytes os → placed_by op ps os ≡ Some xs →
     All NameIsBytes xs
-placed_by_are op ps os xs is e = by (has_register_callee op) e where
+placed_by_are op ps os xs is e = by (has_implicit_callee op) e where
   by : (b : Bool) → cond b (placed_behind_callee ps os) (placed ps os) ≡ Some xs → All NameIsBytes xs
   by true e = behind_callee_are ps os xs is e
   by false e = placed_are ps os xs is e
@@ -184,6 +184,6 @@ pub kind_as_bytes : (ids : List ℕ) (kind : ItemKind) → HasByteNames kind →
 kind_as_bytes ids (Mark v m) all = tt
 kind_as_bytes ids (Phi p k) all = tt
 kind_as_bytes ids (Code c k) all = by (has_form c.op (operands_as ids c.operands)) where
-  by : (b : Bool) → All NameIsBytes (cond b (record { op = c.op; operands = operands_as ids c.operands }) c).operands
+  by : (b : Bool) → All NameIsBytes (cond b (record c { operands = operands_as ids c.operands }) c).operands
   by true = All-map NameIsBytes (operand_as ids) c.operands (All-weaker NameIsBytes (λ o. NameIsBytes (operand_as ids o)) (operand_as_is ids) c.operands all)
   by false = all

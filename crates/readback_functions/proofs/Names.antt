@@ -137,4 +137,4 @@ read_bytes line (Err e) bytes = All-nil IsByte
 -- the name that lines of bytes give
 pub name_bytes : (ls : List Line) → All LineBytes ls → AreBytes (name_of ls).name
 name_bytes [] all = All-nil IsByte
-name_bytes (l ∷ ls) all = read_bytes l (tokens_of l.text) (All-head LineBytes l ls all)
+name_bytes (l ∷ ls) all = read_bytes l (tokens_of false l.text) (All-head LineBytes l ls all)

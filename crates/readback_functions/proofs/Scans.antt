@@ -44,7 +44,7 @@ heading_indented : (t : List ℕ) → heading (32 ∷ t) ≡ None
 unfolding heading
 heading_indented t = refl
 
-same_if : (xs ys : List ℕ) → bytes_eq xs ys ≡ true → xs ≡ ys
+pub same_if : (xs ys : List ℕ) → bytes_eq xs ys ≡ true → xs ≡ ys
 same_if [] [] e = refl
 same_if [] (y ∷ ys) e = absurd cc
 same_if (x ∷ xs) [] e = absurd cc

@@ -1,5 +1,5 @@
 -- The tokens of a line of pieces, by their places: each has the class and the text of its piece.
-use Rattle.std.proofs.Common.{◌≡◌, ℕ, zero, suc, ◌+◌, ◌-◌, List, [], ◌∷◌, ◌++◌, length, take, drop, replicate, Ok}
+use Rattle.std.proofs.Common.{false, ◌≡◌, ℕ, zero, suc, ◌+◌, ◌-◌, List, [], ◌∷◌, ◌++◌, length, take, drop, replicate, Ok}
 use Rattle.std.proofs.Common.{refl, sym, ap, ◌∙◌, arith, append_assoc}
 use Rattle.std.specs.List.{slice_range}
 use Rattle.std.proofs.lemmas.List.{length-append}
@@ -30,7 +30,7 @@ span_is front text rest from to p q =
     ∙ ap (take (length text)) (dropped front (text ++ rest)) ∙ taken text rest
 
 -- the tokens of pieces from a place on
-pub tokens_are : (at : ℕ) (ps : List Piece) → AllRead ps → tokens_from at 0 (spelled ps) ≡ Ok (tokens_at at ps)
+pub tokens_are : (at : ℕ) (ps : List Piece) → AllRead ps → tokens_from false at 0 (spelled ps) ≡ Ok (tokens_at at ps)
 unfolding tokens_from
 tokens_are at [] all = refl
 tokens_are at (p ∷ ps) (here, all) =
@@ -39,9 +39,9 @@ tokens_are at (p ∷ ps) (here, all) =
     let size' : 1 + length here.bytes ≡ length p.text = sym size in
     let t : Token = record { class = p.class; start = from; end = from + (1 + length here.bytes) } in
     behind_blanks at p.blanks (p.text ++ spelled ps)
-    ∙ (ap (λ (x : List ℕ). tokens_from from 0 (x ++ spelled ps)) here.parts
+    ∙ (ap (λ (x : List ℕ). tokens_from false from 0 (x ++ spelled ps)) here.parts
     ∙ (one_token from here.first here.bytes (spelled ps) t here.visible (here.token from) refl
-    ∙ ((λ i. followed_by (record { class = p.class; start = from; end = from + size' i }) (tokens_from (from + size' i) 0 (spelled ps)))
+    ∙ ((λ i. followed_by (record { class = p.class; start = from; end = from + size' i }) (tokens_from false (from + size' i) 0 (spelled ps)))
     ∙ ap (followed_by (token_of at p)) (tokens_are (from + length p.text) ps all))))
 
 -- their texts
@@ -62,7 +62,7 @@ texts_are line front at (p ∷ ps) is place =
     blanks (suc n) = ap (λ (m : ℕ). suc m) (blanks n)
 
 -- a line of pieces
-pub line_tokens : (ps : List Piece) → AllRead ps → tokens_of (spelled ps) ≡ Ok (tokens_at 0 ps)
+pub line_tokens : (ps : List Piece) → AllRead ps → tokens_of false (spelled ps) ≡ Ok (tokens_at 0 ps)
 line_tokens ps all = tokens_are 0 ps all
 
 pub line_texts : (ps : List Piece) → HaveTexts (spelled ps) 0 ps

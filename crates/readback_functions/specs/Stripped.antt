@@ -2,6 +2,7 @@
 use Rattle.std.specs.Prelude.{◌≡◌, ℕ, false, ◌+◌, ◌<◌, List, [], ◌∷◌, length, map, All, Ok}
 use Rattle.read_metadata.specs.Maps.{Maps}
 use Rattle.read_documents.specs.declared.parts.FunctionDocument.{FunctionDocument}
+use Rattle.mir_exposure.specs.declared.exposure.Exposure.TheVariants.{Nothing}
 use Rattle.mir_func.specs.declared.block.Block.{Block}
 use Rattle.mir_func.specs.declared.item.Item.{Item}
 use Rattle.mir_func.specs.declared.position.Origin.TheVariants.{Kept}
@@ -47,7 +48,7 @@ pub record HasNamesOfBytes (f : Function) : Type 0 where
 
 -- a function that was read, without its debug items, as it is read again
 abbrev pub reread : Parsed → Parsed
-reread p = record { func = placed (stripped p.func); subs = [] }
+reread p = record { func = placed (stripped p.func); subs = []; pool = []; exposure = Nothing }
 
 -- The document of a function without its debug items is read unchanged, and as the stripped function, with its own positions as origins. It is so with any
 -- metadata, and whichever line the document begins at.

@@ -15,8 +15,8 @@ use Rattle.rv64_instr.specs.declared.symbol.Half.TheVariants.{Upper, Lower}
 use Rattle.rv64_instr.specs.Arithmetic.{load_width, store_width}
 use Rattle.rv64_instr.specs.Form.{is_within, has_12_bits, is_immediate, is_addi, moves_slot, is_implicit, fits_registers, fits_immediate, fits_upper}
 use Rattle.rv64_instr.specs.Form.{fits_branch, fits_load, fits_store, fits_copy, fits_jump, fits_call, has_form}
-use Rattle.rv64_instr.specs.Form.{is_argument, is_call_register, is_held_tail_use, is_held_tail_register, fits_held_call, fits_tail, fits_held_tail}
-use Rattle.rv64_instr.proofs.Tails.{gone_calls, held_gone_calls, held_tail_uses}
+use Rattle.rv64_instr.specs.Form.{is_held_tail_use, is_held_tail_register, fits_held_call, fits_held_gone, fits_tail, fits_held_tail}
+use Rattle.rv64_instr.proofs.Tails.{gone_calls, held_gone_arguments, held_tail_uses}
 use Rattle.std.specs.Prelude.{pos}
 use Rattle.read_line.specs.declared.form.ItemForm.{ItemForm}
 use Rattle.read_line.specs.declared.form.OperandForm.{OperandForm}
@@ -172,10 +172,13 @@ module _ (ids : List ℕ) where
   store op os line from e = absurd cc
 
   held_call : (os : List Operand) → fits_held_call os ≡ true → Stays ids os
-  held_call (ImplicitUse r ∷ Mask ∷ rest) e =
-      stays_more ids (ImplicitUse r) (Mask ∷ rest) tt (stays_more ids Mask rest tt (arguments_stay ids rest (and_parts (is_call_register r)
-      (list_all is_argument rest) e).1))
+  held_call (Use r ∷ Mask ∷ rest) e = stays_more ids (Use r) (Mask ∷ rest) tt (stays_more ids Mask rest tt (arguments_stay ids rest e))
   held_call os e = absurd cc
+
+  held_gone : (os : List Operand) → fits_held_gone os ≡ true → Stays ids os
+  held_gone (ImplicitUse r ∷ Mask ∷ rest) e =
+      stays_more ids (ImplicitUse r) (Mask ∷ rest) tt (stays_more ids Mask rest tt (arguments_stay ids rest (held_gone_arguments r rest e)))
+  held_gone os e = absurd cc
 
   tail : (os : List Operand) → fits_tail os ≡ true → Stays ids os
   tail (Symbol name ∷ rest) e = stays_more ids (Symbol name) rest tt (tails_stay ids rest (held_tail_uses rest e))
@@ -203,7 +206,7 @@ module _ (ids : List ℕ) where
   again PseudoTail os line from e = stays_judged ids PseudoTail os (tail os e)
   again PseudoTailIndirect os line from e = stays_judged ids PseudoTailIndirect os (held_tail os e)
   again NoReturnCall os line from e = stays_judged ids NoReturnCall os (call os (gone_calls os e))
-  again NoReturnCallIndirect os line from e = stays_judged ids NoReturnCallIndirect os (held_call os (held_gone_calls os e))
+  again NoReturnCallIndirect os line from e = stays_judged ids NoReturnCallIndirect os (held_gone os e)
 
 pub code_is_judged_again : CodeIsJudgedAgain
 code_is_judged_again op line i ids e =
@@ -211,5 +214,5 @@ code_is_judged_again op line i ids e =
     let form = subst (λ (o : Op). has_form o i.operands ≡ true) is.op_is is.form in
     let same = again ids op i.operands line (record { operands = is.operands; in_place = is.in_place }) form in
     ap judged_instruction (renamed ids i is.form)
-    ∙ ap (λ (os : List Operand). record { op = i.op; operands = os })
+    ∙ ap (λ (os : List Operand). record i { operands = os })
     (subst (λ (o : Op). judged_operands o (operands_as ids i.operands) ≡ i.operands) (sym is.op_is) same)

@@ -18,7 +18,7 @@ use Rattle.read_item.specs.declared.place.OperandKind.{OperandKind}
 use Rattle.read_item.specs.declared.place.OperandKind.TheVariants.{Number}
 use Rattle.read_item.specs.Address.{is_same_address, formed, both, halves_of, halves_in, address_operands}
 use Rattle.read_item.specs.Code.{MAX_OPERANDS, operand_at, before, joined, definition, definitions, placed, places_of, operands_of}
-use Rattle.read_item.specs.Code.{callee_operand, placed_behind_callee, has_register_callee, placed_by}
+use Rattle.read_item.specs.Code.{callee_operand, placed_behind_callee, has_implicit_callee, placed_by}
 use Rattle.read_item.specs.Place.{front, behind}
 use Rattle.read_program.proofs.Forms.{if_some}
 use Rattle.read_program.proofs.Halves.{formed_some, both_some}
@@ -66,7 +66,7 @@ behind_callee_counted ps (o ∷ os) xs e =
     more.longer ∙ ap suc (uses_counted (behind ps) os more.behind more.is)
 
 placed_by_counted : (op : Op) (ps : List OperandKind) (os : List OperandForm) (xs : List Operand) → placed_by op ps os ≡ Some xs → length xs ≡ length os
-placed_by_counted op ps os xs e = by (has_register_callee op) e where
+placed_by_counted op ps os xs e = by (has_implicit_callee op) e where
   by : (b : Bool) → cond b (placed_behind_callee ps os) (placed ps os) ≡ Some xs → length xs ≡ length os
   by true e = behind_callee_counted ps os xs e
   by false e = uses_counted ps os xs e

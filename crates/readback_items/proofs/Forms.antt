@@ -316,10 +316,10 @@ call (Symbol name ∷ Mask ∷ rest) e small =
     })
 call os e small = absurd cc
 
-return' : (os : List Operand) → has_form PseudoRet os ≡ true → Given PseudoRet os
+return' : (os : List Operand) → has_form PseudoRet os ≡ true → All (IsLimitedIn false) os → Given PseudoRet os
 unfolding definitions
-return' os e =
-    let t = results os e in
+return' os e small =
+    let t = results os e small in
     given_same PseudoRet [] os t refl (record {
       slot = false;
       slot_is = refl;
@@ -338,7 +338,7 @@ operands_given (Store op) os e small read = store op os e small
 operands_given Copy os e small read = copy os e small
 operands_given PseudoBr os e small read = jump os e
 operands_given PseudoCall os e small read = call os e small
-operands_given PseudoRet os e small read = return' os e
+operands_given PseudoRet os e small read = return' os e small
 operands_given PseudoCallIndirect os e small read = cc
 operands_given PseudoTail os e small read = cc
 operands_given PseudoTailIndirect os e small read = cc

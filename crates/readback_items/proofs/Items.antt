@@ -320,7 +320,7 @@ module _ (qs : List Phrase) (k : Option ℕ) (loc : Loc) (small : Small k) (at :
     -- ---- what the line says
 
     abbrev form_is : List ℕ → ItemForm
-    form_is rs = record { definitions = sets rs; opcode = text; operands = forms qs; no_return = false; number = k; loc = loc; exceeds = false }
+    form_is rs = record { definitions = sets rs; opcode = text; operands = forms qs; no_return = false; volatile = false; number = k; loc = loc; exceeds = false }
 
     semicolons : IsUncut (59 ∷ [])
     semicolons = record { is = semicolon_mark; colon = λ rest. one rest } where
@@ -346,8 +346,8 @@ module _ (qs : List Phrase) (k : Option ℕ) (loc : Loc) (small : Small k) (at :
         (uses_within qs i || tail_within k loc small at
         i))) in
         ap (body_line_of false) (sym (item_spells rs))
-        ∙ (cond-false (is_listing line) (Ok lines.Passed) (line_of_tokens false (code_of line) (tokens_of (code_of line))) (first_text rs are)
-        ∙ (ap (λ (t : List ℕ). line_of_tokens false t (tokens_of t)) code
+        ∙ (cond-false (is_listing line) (Ok lines.Passed) (line_of_tokens false (code_of line) (tokens_of false (code_of line))) (first_text rs are)
+        ∙ (ap (λ (t : List ℕ). line_of_tokens false t (tokens_of false t)) code
         ∙ (ap (line_of_tokens false line) lexed.are
         ∙ (parsed.sentence
         ∙ (ap as_item parsed.item
@@ -356,6 +356,7 @@ module _ (qs : List Phrase) (k : Option ℕ) (loc : Loc) (small : Small k) (at :
           opcode = text;
           operands = forms qs;
           no_return = false;
+          volatile = false;
           number = k;
           loc = loc;
           exceeds = b;

@@ -1,8 +1,8 @@
 -- The form of an item's line is judged as the item.
-use Rattle.std.proofs.Common.{◌≡◌, ℕ, ◌+◌, Bool, true, false, cond, not, ◌&&◌, ◌||◌, List, length, Option, Some, None, Result, Ok, refl, sym, ap}
+use Rattle.std.proofs.Common.{◌≡◌, ℕ, ◌+◌, Bool, true, false, cond, not, ◌&&◌, ◌||◌, List, [], ◌∷◌, length, drop, Option, Some, None, Result, Ok, refl, sym, ap}
 use Rattle.std.proofs.Common.{subst, ◌∙◌, arith}
 use Rattle.std.specs.List.{list_any, zip}
-use Rattle.std.proofs.lemmas.Bool.{le-ltb}
+use Rattle.std.proofs.lemmas.Bool.{le-ltb, or_parts}
 use Rattle.std.proofs.lemmas.List.Elements.{All-weaker}
 use Rattle.read_refusal.specs.declared.kind.RefusalKind.{RefusalKind}
 use Rattle.read_refusal.specs.declared.kind.RefusalKind.TheVariants as kinds
@@ -21,14 +21,16 @@ use Rattle.mir_func.specs.declared.position.Origin.{Origin}
 use Rattle.read_line.specs.declared.form.BodyLine.{BodyLine}
 use Rattle.read_line.specs.declared.form.BodyLine.TheVariants.{Item as OfItem}
 use Rattle.read_line.specs.declared.form.ItemForm.{ItemForm}
+use Rattle.read_line.specs.declared.form.OperandForm.{OperandForm}
+use Rattle.read_line.specs.declared.form.OperandForm.TheVariants as form
 use Rattle.read_line.specs.declared.form.FormError.{FormError}
 use Rattle.read_item.specs.declared.judged.Judged.TheVariants as judged_as
 use Rattle.read_item.specs.declared.opcode.Opcode.{Opcode}
 use Rattle.read_item.specs.declared.opcode.Opcode.TheVariants as opcodes
 use Rattle.read_item.specs.Code.{refusal_by, joined, definitions, placed, names_slot, places_of, fits, is_refused_virtual, is_refused_operand, is_pointer}
-use Rattle.read_item.specs.Code.{begins_with_virtual, names_refused}
+use Rattle.read_item.specs.Code.{begins_with_virtual, names_refused, is_fixed, is_half_of_fixed, has_half_of_fixed}
 use Rattle.read_item.specs.Code.{is_pointer_operand, is_misplaced, is_long, code_rules, operands_of, instruction, unless_refused, code_of}
-use Rattle.read_item.specs.Code.{placed_behind_callee, has_register_callee}
+use Rattle.read_item.specs.Code.{placed_behind_callee, has_implicit_callee}
 use Rattle.read_item.specs.Judge.{entries_of, numbered, item_of, judged_by, judged}
 use Rattle.read_item.specs.Opcode.{debug_opcode_of, opcode_or, opcode_of, is_read}
 use Rattle.read_item.specs.Place.{places}
@@ -36,7 +38,7 @@ use Rattle.read_item.proofs.Named.{named_op}
 use Rattle.readback_items.specs.Debug.{IsDebug}
 use Rattle.readback_items.specs.Forms.{code_form, kind_form, form_of}
 use Rattle.read_program.specs.Limited.{IsLimited}
-use Rattle.read_program.proofs.Operands.{IsLimitedIn, limited_in, all_in_language}
+use Rattle.read_program.proofs.Operands.{IsLimitedIn, limited_in, all_in_language, not_volatile}
 use Rattle.readback_items.specs.Laws.{IsWritable}
 use Rattle.readback_items.proofs.Judged.{debug_lines_read_back}
 use Rattle.readback_items.proofs.Opcodes.{no_callee}
@@ -56,76 +58,91 @@ none_broken false false true d f j k l m n p q r s t = absurd cc
 none_broken false false false true f j k l m n p q r s t = absurd cc
 none_broken false false false false true j k l m n p q r s t = absurd cc
 
-module _ (i : Instruction) (number : Option ℕ) (loc : Loc) (is : IsCode i) (small : All (IsLimitedIn false) i.operands) (read : IsTrue (is_read false i.op))
+-- no half of an address stands behind a fixed stack object where there is none
+no_half : (os rest : List OperandForm) → list_any is_fixed os ≡ false → list_any is_half_of_fixed (zip os rest) ≡ false
+no_half [] rest none = refl
+no_half (o ∷ os) [] none = refl
+no_half (o ∷ os) (x ∷ rest) none =
+    let parts = or_parts (is_fixed o) (list_any is_fixed os) none in
+    ap (λ (b : Bool). b || list_any is_half_of_fixed (zip os rest)) (by o parts.0) ∙ no_half os rest parts.1
   where
-    abbrev line : ItemForm
-    line = code_form i number loc
+    by : (y : OperandForm) → is_fixed y ≡ false → is_half_of_fixed (y, x) ≡ false
+    by (form.Fixed n) e = absurd cc
+    by y e = refl
 
-    given : Given i.op i.operands
-    given = operands_given i.op i.operands is.form small read
+module _ (i : Instruction) (number : Option ℕ) (loc : Loc) (is : IsCode i) (small : All (IsLimitedIn false) i.operands) (read : IsTrue (is_read false i.op))
+    (language : i.volatile ≡ true → false ≡ true) where
+  abbrev line : ItemForm
+  line = code_form i number loc
 
-    plain : Clean (sets_of i.operands) (uses_of i.operands) (length i.operands)
-    plain = clean i.operands (All-weaker (IsLimitedIn false) IsLimited (limited_in false) i.operands small) is.pointer
+  given : Given i.op i.operands
+  given = operands_given i.op i.operands is.form small read
 
-    by_slot : (b : Bool) → names_slot i.op (uses_of i.operands) ≡ b →
-        joined (definitions (sets_of i.operands)) (placed (places i.op b) (uses_of i.operands)) ≡ Some (judged_operands i.op i.operands) →
-        joined (definitions (sets_of i.operands)) (placed (places i.op (names_slot i.op (uses_of i.operands))) (uses_of i.operands)) ≡
-        Some (judged_operands i.op i.operands)
-    by_slot b same e = ap (λ (s : Bool). joined (definitions (sets_of i.operands)) (placed (places i.op s) (uses_of i.operands))) same ∙ e
+  plain : Clean (sets_of i.operands) (uses_of i.operands) (length i.operands)
+  plain = clean i.operands (All-weaker (IsLimitedIn false) IsLimited (limited_in false) i.operands small) is.pointer
 
-    operands_are : operands_of i.op line ≡ Some (judged_operands i.op i.operands)
-    unfolding operands_of
-    operands_are =
-        ap (λ (b : Bool). joined (definitions (sets_of i.operands)) (cond b (placed_behind_callee (places i.op (names_slot i.op (uses_of i.operands)))
-        (uses_of i.operands)) (placed (places i.op (names_slot i.op (uses_of i.operands))) (uses_of i.operands)))) (no_callee i.op read)
-        ∙ by_slot given.slot given.slot_is given.operands
+  by_slot : (b : Bool) → names_slot i.op (uses_of i.operands) ≡ b →
+      joined (definitions (sets_of i.operands)) (placed (places i.op b) (uses_of i.operands)) ≡ Some (judged_operands i.op i.operands) →
+      joined (definitions (sets_of i.operands)) (placed (places i.op (names_slot i.op (uses_of i.operands))) (uses_of i.operands)) ≡
+      Some (judged_operands i.op i.operands)
+  by_slot b same e = ap (λ (s : Bool). joined (definitions (sets_of i.operands)) (placed (places i.op s) (uses_of i.operands))) same ∙ e
 
-    in_place : list_any is_misplaced (zip (places_of i.op line) (uses_of i.operands)) ≡ false
-    in_place = ap (λ (s : Bool). list_any is_misplaced (zip (places i.op s) (uses_of i.operands))) given.slot_is ∙ given.in_place
+  operands_are : operands_of i.op line ≡ Some (judged_operands i.op i.operands)
+  unfolding operands_of
+  operands_are =
+      ap (λ (b : Bool). joined (definitions (sets_of i.operands)) (cond b (placed_behind_callee (places i.op (names_slot i.op (uses_of i.operands)))
+      (uses_of i.operands)) (placed (places i.op (names_slot i.op (uses_of i.operands))) (uses_of i.operands)))) (no_callee i.op read)
+      ∙ by_slot given.slot given.slot_is given.operands
 
-    fits_all : not (fits i.op (operands_of i.op line)) ≡ false
-    fits_all = ap (λ (o : Option (List Operand)). not (fits i.op o)) operands_are ∙ ap not given.form
+  in_place : list_any is_misplaced (zip (places_of i.op line) (uses_of i.operands)) ≡ false
+  in_place = ap (λ (s : Bool). list_any is_misplaced (zip (places i.op s) (uses_of i.operands))) given.slot_is ∙ given.in_place
 
-    known : (list_any is_refused_virtual (sets_of i.operands) || list_any is_refused_operand (uses_of i.operands)) ≡ false
-    known = ap (λ (b : Bool). b || list_any is_refused_operand (uses_of i.operands)) plain.set_known ∙ plain.used_known
+  fits_all : (not (fits i.op (operands_of i.op line)) || has_half_of_fixed (uses_of i.operands)) ≡ false
+  fits_all =
+      ap (λ (b : Bool). b || has_half_of_fixed (uses_of i.operands)) (ap (λ (o : Option (List Operand)). not (fits i.op o)) operands_are ∙ ap not given.form)
+      ∙ no_half (uses_of i.operands) (drop 1 (uses_of i.operands)) plain.unfixed
 
-    -- no register that is refused is virtual
-    physical : names_refused i.op line ≡ false
-    physical =
-        ap (λ (b : Bool). b || (has_register_callee i.op && begins_with_virtual (uses_of i.operands))) known
-        ∙ ap (λ (b : Bool). b && begins_with_virtual (uses_of i.operands)) (no_callee i.op read)
+  known : (list_any is_refused_virtual (sets_of i.operands) || list_any is_refused_operand (uses_of i.operands)) ≡ false
+  known = ap (λ (b : Bool). b || list_any is_refused_operand (uses_of i.operands)) plain.set_known ∙ plain.used_known
 
-    others : (list_any is_pointer (sets_of i.operands) || list_any is_pointer_operand (uses_of i.operands)) ≡ false
-    others = ap (λ (b : Bool). b || list_any is_pointer_operand (uses_of i.operands)) plain.set_others ∙ plain.used_others
+  -- no register that is refused is virtual
+  physical : names_refused i.op line ≡ false
+  physical =
+      ap (λ (b : Bool). b || (has_implicit_callee i.op && begins_with_virtual (uses_of i.operands))) known
+      ∙ ap (λ (b : Bool). b && begins_with_virtual (uses_of i.operands)) (no_callee i.op read)
 
-    short : is_long line ≡ false
-    short = le-ltb 64 (length (sets_of i.operands) + length (uses_of i.operands)) (omega (arith, plain.count, is.few))
+  others : (list_any is_pointer (sets_of i.operands) || list_any is_pointer_operand (uses_of i.operands)) ≡ false
+  others = ap (λ (b : Bool). b || list_any is_pointer_operand (uses_of i.operands)) plain.set_others ∙ plain.used_others
 
-    unbroken : refusal_by (code_rules i.op line) ≡ None
-    unbroken = none_broken (not (fits i.op (operands_of i.op line)))
-        (names_refused i.op line)
-        (list_any is_pointer (sets_of i.operands) || list_any is_pointer_operand (uses_of i.operands))
-        (list_any is_misplaced (zip (places_of i.op line) (uses_of i.operands))) (is_long line) kinds.BadOperands kinds.VirtualRegister
-        kinds.StackPointerUse kinds.StackObject kinds.TooMany fits_all physical others in_place short
+  short : is_long line ≡ false
+  short = le-ltb 64 (length (sets_of i.operands) + length (uses_of i.operands)) (omega (arith, plain.count, is.few))
 
-    code_is : code_of i.op line ≡ Ok (judged_instruction i)
-    unfolding code_of
-    code_is =
-        ap (λ (o : Option RefusalKind). unless_refused o (instruction i.op (operands_of i.op line))) unbroken
-        ∙ ap (λ (o : Option (List Operand)). Ok (instruction i.op o)) operands_are
+  unbroken : refusal_by (code_rules i.op line) ≡ None
+  unbroken = none_broken (not (fits i.op (operands_of i.op line)) || has_half_of_fixed (uses_of i.operands))
+      (names_refused i.op line)
+      (list_any is_pointer (sets_of i.operands) || list_any is_pointer_operand (uses_of i.operands))
+      (list_any is_misplaced (zip (places_of i.op line) (uses_of i.operands))) (is_long line) kinds.BadOperands kinds.VirtualRegister
+      kinds.StackPointerUse kinds.StackObject kinds.TooMany fits_all physical others in_place short
 
-    opcode_is : opcode_of false (mnemonic_of i.op) ≡ Some (opcodes.Code i.op)
-    unfolding opcode_of
-    opcode_is = ap (λ (o : Option Op). opcode_or o (debug_opcode_of (mnemonic_of i.op)))
-        (sym (ap (λ (b : Bool). cond b (Some i.op) None) (sym read) ∙ named_op false (mnemonic_of i.op) (Some i.op) refl
-        (λ op e. ap (λ (x : Op). Some x) (mnemonic_of-injective i.op op e))))
+  code_is : code_of i.op line ≡ Ok (judged_instruction i)
+  unfolding code_of
+  code_is =
+      ap (λ (o : Option RefusalKind). unless_refused o (instruction i.op false (operands_of i.op line))) unbroken
+      ∙ (ap (λ (o : Option (List Operand)). Ok (instruction i.op false o)) operands_are
+      ∙ (λ j. Ok (record { op = i.op; operands = judged_operands i.op i.operands; volatile = sym (not_volatile i.volatile language) j })))
 
-    pub code_judged : (meta : Maps) → judged false meta line ≡
-        Ok (judged_as.Item (record { kind = Code (judged_instruction i) number; loc = loc; entries = entries_of line.operands }))
-    unfolding judged
-    code_judged meta =
-        ap (λ (o : Option Opcode). judged_by false o meta line) opcode_is
-        ∙ ap (λ (r : Result Instruction RefusalKind). item_of line (numbered number r)) code_is
+  opcode_is : opcode_of false (mnemonic_of i.op) ≡ Some (opcodes.Code i.op)
+  unfolding opcode_of
+  opcode_is = ap (λ (o : Option Op). opcode_or o (debug_opcode_of (mnemonic_of i.op)))
+      (sym (ap (λ (b : Bool). cond b (Some i.op) None) (sym read) ∙ named_op false (mnemonic_of i.op) (Some i.op) refl
+      (λ op e. ap (λ (x : Op). Some x) (mnemonic_of-injective i.op op e))))
+
+  pub code_judged : (meta : Maps) → judged false meta line ≡
+      Ok (judged_as.Item (record { kind = Code (judged_instruction i) number; loc = loc; entries = entries_of line.operands }))
+  unfolding judged
+  code_judged meta =
+      ap (λ (o : Option Opcode). judged_by false o meta line) opcode_is
+      ∙ ap (λ (r : Result Instruction RefusalKind). item_of line (numbered number r)) code_is
 
 -- ---- debug items
 
@@ -145,7 +162,7 @@ by_kind : (meta : Maps) (kind : ItemKind) (origin : Origin) (loc : Loc) → IsWr
     IsReadable meta loc kind → judged false meta (kind_form kind loc) ≡
     Ok (judged_as.Item (record { kind = judged_kind kind; loc = loc; entries = entries_of (kind_form kind loc).operands }))
 by_kind meta (Code i k) origin loc writable is =
-    code_judged i k loc is (all_in_language false i.operands writable.kind.0 writable.language.0) writable.language.1 meta
+    code_judged i k loc is (all_in_language false i.operands writable.kind.0 writable.language.0) writable.language.1 writable.language.2 meta
 by_kind meta (Mark v m) origin loc writable is = debug_judged meta (record { kind = Mark v m; origin = origin; loc = loc }) writable is
 by_kind meta (Phi p k) origin loc writable is = debug_judged meta (record { kind = Phi p k; origin = origin; loc = loc }) writable is
 

@@ -70,8 +70,8 @@ module _ (n : ℕ) (small : n ≤ MAX_NUMBER) where
       let comments : before (59 ∷ []) None line ≡ line = pieces_pass (59 ∷ []) semicolon_mark pieces (ends (59 ∷ []) semicolon_mark no_comment) in
       let operands : before (58 ∷ 58 ∷ []) None line ≡ line = pieces_pass (58 ∷ 58 ∷ []) colons_mark pieces (ends (58 ∷ 58 ∷ []) colons_mark no_operands) in
       let code : code_of line ≡ line = ap (before (58 ∷ 58 ∷ []) None) comments ∙ operands in
-      cond-false (is_listing line) (Ok Passed) (line_of_tokens false (code_of line) (tokens_of (code_of line))) no_listing
-      ∙ (ap (λ (t : List ℕ). line_of_tokens false t (tokens_of t)) code
+      cond-false (is_listing line) (Ok Passed) (line_of_tokens false (code_of line) (tokens_of false (code_of line))) no_listing
+      ∙ (ap (λ (t : List ℕ). line_of_tokens false t (tokens_of false t)) code
       ∙ (ap (line_of_tokens false line) lexed.are ∙ sentence_is line (lexemes_of line lexed.tokens) lexed.lexed))
 
 pub labels_read_back : LabelsReadBack

@@ -31,7 +31,7 @@ pub record Reads (class : Class) (text rest : List ℕ) : Type 0 where
   pub bytes : List ℕ
   pub parts : text ≡ first ∷ bytes
   pub visible : is_blank first ≡ false
-  pub token : (at : ℕ) → token_at at first (bytes ++ rest) ≡ Ok (record { class = class; start = at; end = at + (1 + length bytes) })
+  pub token : (at : ℕ) → token_at false at first (bytes ++ rest) ≡ Ok (record { class = class; start = at; end = at + (1 + length bytes) })
 
 -- so are those of all pieces
 abbrev pub AllRead : List Piece → Type 0
@@ -63,32 +63,32 @@ slice_is front text rest =
 
 -- ---- tokens
 
-pub skips : (at : ℕ) (bytes rest : List ℕ) → tokens_from at (length bytes) (bytes ++ rest) ≡ tokens_from (at + length bytes) 0 rest
+pub skips : (at : ℕ) (bytes rest : List ℕ) → tokens_from false at (length bytes) (bytes ++ rest) ≡ tokens_from false (at + length bytes) 0 rest
 unfolding tokens_from
-skips at [] rest = ap (λ (n : ℕ). tokens_from n 0 rest) (let e : at ≡ at + 0 = omega arith in e)
-skips at (b ∷ bytes) rest = skips (at + 1) bytes rest ∙ ap (λ (n : ℕ). tokens_from n 0 rest) (let e : at + 1 + length bytes ≡ at + suc
+skips at [] rest = ap (λ (n : ℕ). tokens_from false n 0 rest) (let e : at ≡ at + 0 = omega arith in e)
+skips at (b ∷ bytes) rest = skips (at + 1) bytes rest ∙ ap (λ (n : ℕ). tokens_from false n 0 rest) (let e : at + 1 + length bytes ≡ at + suc
     (length bytes) = omega arith in e)
 
-pub behind_blanks : (at n : ℕ) (rest : List ℕ) → tokens_from at 0 (replicate n 32 ++ rest) ≡ tokens_from (at + n) 0 rest
+pub behind_blanks : (at n : ℕ) (rest : List ℕ) → tokens_from false at 0 (replicate n 32 ++ rest) ≡ tokens_from false (at + n) 0 rest
 unfolding tokens_from
-behind_blanks at zero rest = ap (λ (n : ℕ). tokens_from n 0 rest) (let e : at ≡ at + 0 = omega arith in e)
-behind_blanks at (suc n) rest = behind_blanks (at + 1) n rest ∙ ap (λ (m : ℕ). tokens_from m 0 rest) (let e : at + 1 + n ≡ at + suc n = omega arith in e)
+behind_blanks at zero rest = ap (λ (n : ℕ). tokens_from false n 0 rest) (let e : at ≡ at + 0 = omega arith in e)
+behind_blanks at (suc n) rest = behind_blanks (at + 1) n rest ∙ ap (λ (m : ℕ). tokens_from false m 0 rest) (let e : at + 1 + n ≡ at + suc n = omega arith in e)
 
-pub one_token : (at first : ℕ) (bytes rest : List ℕ) (t : Token) → is_blank first ≡ false → token_at at first (bytes ++ rest) ≡ Ok t →
-    t.end ≡ at + (1 + length bytes) → tokens_from at 0 (first ∷ (bytes ++ rest)) ≡ followed_by t (tokens_from (at + (1 + length bytes)) 0 rest)
+pub one_token : (at first : ℕ) (bytes rest : List ℕ) (t : Token) → is_blank first ≡ false → token_at false at first (bytes ++ rest) ≡ Ok t →
+    t.end ≡ at + (1 + length bytes) → tokens_from false at 0 (first ∷ (bytes ++ rest)) ≡ followed_by t (tokens_from false (at + (1 + length bytes)) 0 rest)
 unfolding tokens_from
 one_token at first bytes rest t visible is end =
-    ap (λ (b : Bool). cond b (tokens_from (at + 1) 0 (bytes ++ rest))
-    (and_then (token_at at first (bytes ++ rest)) (λ x. followed_by x (tokens_from (at + 1) (x.end - (at + 1)) (bytes ++ rest))))) visible
-    ∙ (ap (λ (r : Result Token LexError). and_then r (λ x. followed_by x (tokens_from (at + 1) (x.end - (at + 1)) (bytes ++ rest)))) is
-    ∙ (ap (λ (n : ℕ). followed_by t (tokens_from (at + 1) n (bytes ++ rest))) (let e : t.end - (at + 1) ≡ length bytes = omega (arith, end) in e)
-    ∙ ap (followed_by t) (skips (at + 1) bytes rest ∙ ap (λ (n : ℕ). tokens_from n 0 rest) (let e : at + 1 + length bytes ≡ at +
+    ap (λ (b : Bool). cond b (tokens_from false (at + 1) 0 (bytes ++ rest))
+    (and_then (token_at false at first (bytes ++ rest)) (λ x. followed_by x (tokens_from false (at + 1) (x.end - (at + 1)) (bytes ++ rest))))) visible
+    ∙ (ap (λ (r : Result Token LexError). and_then r (λ x. followed_by x (tokens_from false (at + 1) (x.end - (at + 1)) (bytes ++ rest)))) is
+    ∙ (ap (λ (n : ℕ). followed_by t (tokens_from false (at + 1) n (bytes ++ rest))) (let e : t.end - (at + 1) ≡ length bytes = omega (arith, end) in e)
+    ∙ ap (followed_by t) (skips (at + 1) bytes rest ∙ ap (λ (n : ℕ). tokens_from false n 0 rest) (let e : at + 1 + length bytes ≡ at +
     (1 + length bytes) = omega arith in e))))
 
 -- the tokens of pieces behind what stands before them
 record TokensAre (line : List ℕ) (at : ℕ) (ps : List Piece) : Type 0 where
   tokens : List Token
-  are : tokens_from at 0 (spelled ps) ≡ Ok tokens
+  are : tokens_from false at 0 (spelled ps) ≡ Ok tokens
   lexed : Lexed line ps (map (lexeme_of line) tokens)
 
 more_tokens : (line : List ℕ) (t : Token) (ts : List Token) (p : Piece) (ps : List Piece) → t.class ≡ p.class → text_of line t ≡ p.text →
@@ -118,10 +118,10 @@ pieces_read line front (p ∷ ps) is (here, all) =
     record {
       tokens = t ∷ rest.tokens;
       are = behind_blanks (length front) p.blanks (p.text ++ spelled ps)
-          ∙ (ap (λ (n : ℕ). tokens_from n 0 (p.text ++ spelled ps)) places
-          ∙ (ap (λ (x : List ℕ). tokens_from at 0 (x ++ spelled ps)) here.parts
+          ∙ (ap (λ (n : ℕ). tokens_from false n 0 (p.text ++ spelled ps)) places
+          ∙ (ap (λ (x : List ℕ). tokens_from false at 0 (x ++ spelled ps)) here.parts
           ∙ (one_token at here.first here.bytes (spelled ps) t here.visible (here.token at) refl
-          ∙ (ap (λ (n : ℕ). followed_by t (tokens_from n 0 (spelled ps))) (sym next) ∙ ap (followed_by t) rest.are))));
+          ∙ (ap (λ (n : ℕ). followed_by t (tokens_from false n 0 (spelled ps))) (sym next) ∙ ap (followed_by t) rest.are))));
       lexed = more_tokens line t rest.tokens p ps refl
           (ap (λ (x : List ℕ). slice_range x at (at + (1 + length here.bytes))) whole
           ∙ (ap (slice_range (before ++ (p.text ++ spelled ps)) at) ends ∙ slice_is before p.text (spelled ps)))
@@ -135,7 +135,7 @@ pieces_read line front (p ∷ ps) is (here, all) =
 -- a line of pieces
 pub record IsLexed (ps : List Piece) : Type 0 where
   pub tokens : List Token
-  pub are : tokens_of (spelled ps) ≡ Ok tokens
+  pub are : tokens_of false (spelled ps) ≡ Ok tokens
   pub lexed : Lexed (spelled ps) ps (lexemes_of (spelled ps) tokens)
 
 pub pieces_lexed : (ps : List Piece) → AllRead ps → IsLexed ps

@@ -8,7 +8,7 @@ use Rattle.std.specs.Str.Parse.{digits_value_after}
 use Rattle.std.proofs.Math.Dec.{eqb-suc-zero}
 use Rattle.std.proofs.lemmas.Bool.{and_parts, and_from, ne_eqb, lt-ltb}
 use Rattle.std.proofs.lemmas.Bool.Decides.{nat_tests}
-use Rattle.std.proofs.lemmas.Fmt.{decimal_by_steps, decimal_is_IsNumeral}
+use Rattle.std.proofs.lemmas.Fmt.{decimal_by_steps_wide, decimal_is_IsNumeral_wide}
 use Rattle.std.proofs.lemmas.List.Folds.{list_all-append}
 use Rattle.read_metadata.specs.Number.{value_behind}
 use Rattle.read_token.specs.declared.lexeme.Number.TheVariants.{Fits, Large}
@@ -59,8 +59,8 @@ digits_more text d small is = record {
       (and_from (is_ascii_digit (48 + d)) true (digit_is d small) refl);
 }
 
-digits_of : (n : ℕ) → n < 2 ^ 64 → Digits (decimal n)
-digits_of n small = decimal_by_steps (λ m text. Digits text)
+digits_of : (n : ℕ) → n < 10 ^ 64 → Digits (decimal n)
+digits_of n small = decimal_by_steps_wide (λ m text. Digits text)
     (λ m one. record { first = 48 + m; rest = []; parts = refl; digit = digit_is m one; digits = refl })
     (λ m text ten before. digits_more text (m % 10) (omega arith) before)
     n small
@@ -69,8 +69,8 @@ same_value : (n : ℕ) (ds : List ℕ) → value_behind 10 n ds ≡ digits_value
 same_value n [] = refl
 same_value n (d ∷ ds) = same_value (n * 10 + digit_value d) ds
 
-pub decimal_of : (n : ℕ) → n < 2 ^ 64 → Decimal n
-decimal_of n small =
+pub decimal_wide : (n : ℕ) → n < 10 ^ 64 → Decimal n
+decimal_wide n small =
     let is = digits_of n small in
     record {
       first = is.first;
@@ -78,8 +78,11 @@ decimal_of n small =
       parts = is.parts;
       digit = is.digit;
       digits = is.digits;
-      value = same_value 0 (decimal n) ∙ (decimal_is_IsNumeral n small).1;
+      value = same_value 0 (decimal n) ∙ (decimal_is_IsNumeral_wide n small).1;
     }
+
+pub decimal_of : (n : ℕ) → n < 2 ^ 64 → Decimal n
+decimal_of n small = decimal_wide n (omega (arith, small))
 
 -- a digit is none of the bytes that mean something else
 pub no_digit : (b c : ℕ) → is_ascii_digit b ≡ true → is_ascii_digit c ≡ false → eqb b c ≡ false

@@ -14,7 +14,7 @@ use Rattle.rv64_instr.specs.declared.op.BranchOp.TheVariants.{Beq, Bne, Blt, Bge
 use Rattle.rv64_instr.specs.declared.op.LoadOp.TheVariants.{Lb, Lh, Lw, Ld, Lbu, Lhu, Lwu}
 use Rattle.rv64_instr.specs.declared.op.StoreOp.TheVariants.{Sb, Sh, Sw, Sd}
 use Rattle.rv64_instr.specs.declared.operand.Operand.{Operand}
-use Rattle.rv64_instr.specs.Form.{has_register_callee}
+use Rattle.rv64_instr.specs.Form.{has_implicit_callee}
 use Rattle.rv64_instr.specs.Mnemonic.{mnemonic_of}
 use Rattle.mir_printer.specs.Spelling.{is_definition, held_uses, uses_behind}
 use Rattle.read_item.specs.Opcode.{is_read}
@@ -112,9 +112,8 @@ mnemonics NoReturnCall read = cc
 mnemonics NoReturnCallIndirect read = cc
 mnemonics _ read = refl
 
--- calls by a register are of the linked language
-pub no_callee : (op : Op) → is_read false op ≡ true → has_register_callee op ≡ false
-no_callee PseudoCallIndirect read = cc
+-- calls whose callee's register is an implicit use are of the linked language
+pub no_callee : (op : Op) → is_read false op ≡ true → has_implicit_callee op ≡ false
 no_callee PseudoTailIndirect read = cc
 no_callee NoReturnCallIndirect read = cc
 no_callee op read = refl

@@ -7,6 +7,7 @@ use Rattle.std.specs.Fmt.{decimal, signed_decimal}
 use Rattle.std.proofs.lemmas.Bool.{lt-leb, false≢true}
 use Rattle.rv64_instr.specs.declared.operand.Operand.{Operand}
 use Rattle.rv64_instr.specs.declared.operand.Operand.TheVariants.{Def, Use, ImplicitDef, ImplicitUse, Imm, Slot, Object, Part, Outgoing, Block, Symbol, Mask}
+use Rattle.rv64_instr.specs.declared.operand.Operand.TheVariants.{GlobalRegisters}
 use Rattle.rv64_instr.specs.Form.{IsSigned}
 use Rattle.read_metadata.specs.Definition.{name_of}
 use Rattle.read_metadata.specs.Token.{text_of}
@@ -413,6 +414,7 @@ operand_said (Slot n) small bytes = stack_said n small
 operand_said (Object n) small bytes = stack_said n small
 operand_said (Part half y) small bytes = absurd (false≢true small.0)
 operand_said (Outgoing n) small bytes = absurd small
+operand_said GlobalRegisters small bytes = absurd small
 operand_said (Block n) small bytes = record { phrase = block_phrase n small; text_is = refl; form_is = refl }
 operand_said (Symbol name) small bytes = record { phrase = symbol_phrase name bytes; text_is = refl; form_is = refl }
 operand_said Mask small bytes = record { phrase = mask_phrase; text_is = refl; form_is = refl }

@@ -1,7 +1,11 @@
 -- Each item of a function that was read is readable.
-use Rattle.std.proofs.Common.{Bool, ◌≡◌, ℕ, List, All, Result, Ok, Err, refl, sym, ap, subst, inl, inr}
+use Rattle.std.proofs.Common.{Bool, ◌≡◌, ◌≤◌, ℕ, List, ◌∷◌, All, length, Result, Ok, Err, refl, sym, ap, subst, inl, inr}
 use Rattle.std.proofs.lemmas.List.Elements.{All-map, All-weaker}
 use Rattle.read_refusal.specs.declared.first.Refusal.{Refusal}
+use Rattle.rv64_instr.specs.declared.op.Op.{Op}
+use Rattle.rv64_instr.specs.declared.op.Op.TheVariants.{PseudoCallIndirect}
+use Rattle.rv64_instr.specs.declared.operand.Operand.{Operand}
+use Rattle.rv64_instr.specs.declared.operand.Operand.TheVariants.{Use}
 use Rattle.read_metadata.specs.Maps.{Maps}
 use Rattle.read_documents.specs.declared.parts.FunctionDocument.{FunctionDocument}
 use Rattle.mir_func.specs.declared.block.Block.{Block}
@@ -11,14 +15,15 @@ use Rattle.mir_func.specs.declared.item.ItemKind.TheVariants.{Code, Mark, Phi}
 use Rattle.mir_func.specs.declared.location.Loc.{Loc}
 use Rattle.mir_func.specs.Function.{Function}
 use Rattle.mir_func.specs.Sound.{AllItems, LeavesPointer}
-use Rattle.read_declarations.specs.declared.declarations.Declarations.{Declarations}
-use Rattle.read_declarations.specs.Declarations.{declarations_of}
+use Rattle.read_body.specs.read_declarations.declared.declarations.Declarations.{Declarations}
+use Rattle.read_body.specs.read_declarations.Declarations.{declarations_of}
+use Rattle.read_item.specs.Code.{MAX_OPERANDS}
 use Rattle.read_body.specs.declared.body.Body.{Body}
 use Rattle.read_body.specs.Body.{blocks_of}
 use Rattle.read_body.specs.StackEntryKind.{ids_of_objects}
 use Rattle.read_program.specs.declared.closing.Parsed.{Parsed}
 use Rattle.read_program.specs.BodyLines.{body_of}
-use Rattle.read_program.specs.Ends.{kind_not_returning}
+use Rattle.read_program.specs.Ends.{gone_operands, kind_not_returning}
 use Rattle.read_program.specs.Closing.{Closes, ParsesParts}
 use Rattle.read_program.specs.Objects.{item_as, block_as, blocks_as}
 use Rattle.read_program.proofs.Bodies.{IsReadBlock}
@@ -41,8 +46,16 @@ line_is_kept linked meta end kind loc from =
     (line_kept linked meta from.form from.item.entries from.item.kind line.line_is)))
 
 -- a call that doesn't return is as short
+gone_length : (op : Op) (os : List Operand) → length (gone_operands op os) ≡ length os
+gone_length PseudoCallIndirect (Use r ∷ rest) = refl
+gone_length op os = refl
+
 gone_kept : (meta : Maps) (kind : ItemKind) (loc : Loc) → Kept meta loc kind → Kept meta loc (kind_not_returning kind)
-gone_kept meta (Code i k) loc kept = as_gone IsShort i kept (λ form. record { form = form; few = kept.few })
+gone_kept meta (Code i k) loc kept =
+    as_gone IsShort i kept (λ form. record {
+      form = form;
+      few = subst (λ (n : ℕ). n ≤ MAX_OPERANDS) (sym (gone_length i.op i.operands)) kept.few;
+    })
 gone_kept meta (Mark v m) loc kept = kept
 gone_kept meta (Phi p k) loc kept = kept
 

@@ -9,10 +9,12 @@ use Rattle.std.proofs.lemmas.Bool.{false≢true}
 use Rattle.std.proofs.lemmas.List.Elements.{All-head, All-tail}
 use Rattle.rv64_instr.specs.declared.operand.Operand.{Operand}
 use Rattle.rv64_instr.specs.declared.operand.Operand.TheVariants.{Def, Use, ImplicitDef, ImplicitUse, Imm, Slot, Object, Part, Outgoing, Block, Symbol, Mask}
+use Rattle.rv64_instr.specs.declared.operand.Operand.TheVariants.{GlobalRegisters}
 use Rattle.rv64_instr.specs.declared.place.Place.{Place}
 use Rattle.rv64_instr.specs.declared.place.Place.TheVariants as place
 use Rattle.rv64_instr.specs.Instruction.{Instruction}
 use Rattle.rv64_instr.specs.Mnemonic.{mnemonic_of}
+use Rattle.mir_func.specs.declared.item.Item.{Item}
 use Rattle.mir_func.specs.declared.item.ItemKind.{ItemKind}
 use Rattle.mir_func.specs.declared.item.ItemKind.TheVariants.{Code, Mark, Phi}
 use Rattle.mir_func.specs.declared.location.Loc.{Loc}
@@ -29,11 +31,11 @@ use Rattle.read_line.specs.declared.form.OperandForm.TheVariants as form
 use Rattle.read_line.specs.declared.form.RegisterForm.{RegisterForm}
 use Rattle.read_line.specs.Body.{body_line_of}
 use Rattle.read_item.specs.Opcode.{is_read}
-use Rattle.read_program.proofs.Operands.{IsLimitedIn, all_in_language}
+use Rattle.read_program.proofs.Operands.{IsLimitedIn, all_in_language, not_volatile}
 use Rattle.read_program.specs.Limited.{PlaceIsLimited, ValueIsLimited, VariableIsLimited, KindIsLimited, LocIsLimited, IsOfLanguage}
 use Rattle.mir_printer.specs.Spelling.{comma_separated, register_text, operand_text, is_definition, definitions_text, uses_text, instruction_text, number_text}
 use Rattle.mir_printer.specs.Spelling.{phi_place_text, expression_text, pair_expression_text, value_mark_text, kind_text}
-use Rattle.mir_printer.specs.Spelling.{location_text, uses_behind}
+use Rattle.mir_printer.specs.Spelling.{location_text, uses_behind, is_volatile_kind, with_memory_operand, item_text}
 use Rattle.readback_items.specs.Forms.{register_form, no_register, operand_form, set_register, code_form, debug_form, value_form}
 use Rattle.readback_items.specs.Forms.{mark_form, place_form, kind_form}
 use Rattle.readback_items.specs.Laws.{NameIsBytes, HasByteNames, LinesSayForms}
@@ -93,6 +95,7 @@ one_more (Slot n) os small bytes s = one_use (Slot n) os refl refl (operand_said
 one_more (Object n) os small bytes s = one_use (Object n) os refl refl (operand_said (Object n) small bytes) s
 one_more (Part half y) os small bytes s = absurd (false≢true small.0)
 one_more (Outgoing n) os small bytes s = absurd small
+one_more GlobalRegisters os small bytes s = absurd small
 one_more (Block n) os small bytes s = one_use (Block n) os refl refl (operand_said (Block n) small bytes) s
 one_more (Symbol name) os small bytes s = one_use (Symbol name) os refl refl (operand_said (Symbol name) small bytes) s
 one_more Mask os small bytes s = one_use Mask os refl refl (operand_said Mask small bytes) s
@@ -154,6 +157,7 @@ code_says i k loc read small number at bytes =
       opcode = mnemonic_of i.op;
       operands = s.use_forms j;
       no_return = false;
+      volatile = false;
       number = k;
       loc = loc;
       exceeds = false;
@@ -262,5 +266,14 @@ kind_says (Code i k) loc is language at names = code_says i k loc language.1 (al
 kind_says (Mark v m) loc is language at names = mark_says v loc is.0 at m is.1
 kind_says (Phi p k) loc is language at names = phi_says p k loc is.0 is.1 at
 
+-- the text of an item that isn't of the linked language has no memory operand
+pub plain_text : (i : Item) → IsOfLanguage false i.kind → item_text i ≡ kind_text i.kind ++ location_text i.loc
+plain_text i language = ap (λ (b : Bool). with_memory_operand b (kind_text i.kind ++ location_text i.loc)) (by i.kind language) where
+  by : (kind : ItemKind) → IsOfLanguage false kind → is_volatile_kind kind ≡ false
+  by (Code c k) is = not_volatile c.volatile is.2
+  by (Mark v m) is = refl
+  by (Phi p k) is = refl
+
 pub lines_say_forms : LinesSayForms
-lines_say_forms i is = kind_says i.kind i.loc is.kind is.language is.loc is.names
+lines_say_forms i is =
+    ap (λ (t : List ℕ). body_line_of false (codes "    " ++ t)) (plain_text i is.language) ∙ kind_says i.kind i.loc is.kind is.language is.loc is.names

@@ -5,6 +5,7 @@ use Rattle.std.proofs.lemmas.Bool.{and_parts}
 use Rattle.rv64_instr.specs.declared.op.Op.{Op}
 use Rattle.rv64_instr.specs.declared.operand.Operand.{Operand}
 use Rattle.rv64_instr.specs.declared.operand.Operand.TheVariants.{Def, Use, ImplicitDef, ImplicitUse, Imm, Slot, Object, Part, Outgoing, Block, Symbol, Mask}
+use Rattle.rv64_instr.specs.declared.operand.Operand.TheVariants.{GlobalRegisters}
 use Rattle.rv64_instr.specs.Form.{is_implicit, is_argument, is_result, has_form, is_held_tail_use}
 use Rattle.read_body.specs.FirstUseOrder.{is_met}
 use Rattle.read_program.specs.Objects.{operand_as, operands_as}
@@ -32,6 +33,8 @@ module _ (ids : List ℕ) where
       record { slots = ap (λ (l : List Operand). Part half y ∷ l) s.slots; named = ap (λ (l : List Operand). Part half y ∷ l) s.named }
   stays_more (Outgoing n) os is s =
       record { slots = ap (λ (l : List Operand). Outgoing n ∷ l) s.slots; named = ap (λ (l : List Operand). Outgoing n ∷ l) s.named }
+  stays_more GlobalRegisters os is s =
+      record { slots = ap (λ (l : List Operand). GlobalRegisters ∷ l) s.slots; named = ap (λ (l : List Operand). GlobalRegisters ∷ l) s.named }
   stays_more (Def r) os is s = record { slots = ap (λ (l : List Operand). Def r ∷ l) s.slots; named = ap (λ (l : List Operand). Def r ∷ l) s.named }
   stays_more (Use r) os is s = record { slots = ap (λ (l : List Operand). Use r ∷ l) s.slots; named = ap (λ (l : List Operand). Use r ∷ l) s.named }
   stays_more (ImplicitDef r) os is s =

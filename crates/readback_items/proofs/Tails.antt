@@ -5,7 +5,7 @@ use Rattle.std.specs.List.{flat_map, list_all}
 use Rattle.std.proofs.lemmas.Bool.{and_parts, ltb-true, leb-true}
 use Rattle.std.proofs.lemmas.List.Elements.{All-head, All-tail}
 use Rattle.rv64_instr.specs.declared.operand.Operand.{Operand}
-use Rattle.rv64_instr.specs.declared.operand.Operand.TheVariants.{ImplicitDef, ImplicitUse, Outgoing}
+use Rattle.rv64_instr.specs.declared.operand.Operand.TheVariants.{ImplicitDef, ImplicitUse, Outgoing, GlobalRegisters}
 use Rattle.rv64_instr.specs.Form.{is_implicit, is_argument, is_result}
 use Rattle.read_token.specs.declared.lexeme.Flag.TheVariants.{Implicit as ImplicitFlag, ImplicitDef as ImplicitDefFlag}
 use Rattle.read_item.specs.Code.{before, used, placed}
@@ -59,11 +59,13 @@ argument_tail : (o : Operand) → is_argument o ≡ true → IsLimitedIn false o
 argument_tail (ImplicitDef r) e small = small
 argument_tail (ImplicitUse r) e small = small
 argument_tail (Outgoing n) e small = absurd small
+argument_tail GlobalRegisters e small = absurd small
 argument_tail o e small = absurd cc
 
-result_tail : (o : Operand) → is_result o ≡ true → IsTail o
-result_tail (ImplicitUse r) e = let low = leb-true r 17 (and_parts (leb 10 r) (leb r 17) e).1 in omega (arith, low)
-result_tail o e = absurd cc
+result_tail : (o : Operand) → is_result o ≡ true → IsLimitedIn false o → IsTail o
+result_tail (ImplicitUse r) e small = let low = leb-true r 17 (and_parts (leb 10 r) (leb r 17) e).1 in omega (arith, low)
+result_tail GlobalRegisters e small = absurd small
+result_tail o e small = absurd cc
 
 pub implicits : (rest : List Operand) → list_all is_implicit rest ≡ true → Tail rest
 implicits = tails is_implicit implicit_tail
@@ -74,5 +76,8 @@ arguments (o ∷ os) e small =
     let parts = and_parts (is_argument o) (list_all is_argument os) e in
     tail_more o os (argument_tail o parts.0 (All-head (IsLimitedIn false) o os small)) (arguments os parts.1 (All-tail (IsLimitedIn false) o os small))
 
-pub results : (rest : List Operand) → list_all is_result rest ≡ true → Tail rest
-results = tails is_result result_tail
+pub results : (rest : List Operand) → list_all is_result rest ≡ true → All (IsLimitedIn false) rest → Tail rest
+results [] e small = no_tail
+results (o ∷ os) e small =
+    let parts = and_parts (is_result o) (list_all is_result os) e in
+    tail_more o os (result_tail o parts.0 (All-head (IsLimitedIn false) o os small)) (results os parts.1 (All-tail (IsLimitedIn false) o os small))

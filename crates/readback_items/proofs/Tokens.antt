@@ -122,7 +122,7 @@ kind_read b bytes rest start other all is = record {
 }
 
 -- a byte that stands for itself
-pub single_read : (b : ℕ) (rest : List ℕ) → ((at : ℕ) (after : List ℕ) → token_at at b after ≡ token (Single b) at 1) → is_blank b ≡ false →
+pub single_read : (b : ℕ) (rest : List ℕ) → ((at : ℕ) (after : List ℕ) → token_at false at b after ≡ token (Single b) at 1) → is_blank b ≡ false →
     Reads (Single b) (b ∷ []) rest
 single_read b rest alone visible = record { first = b; bytes = []; parts = refl; visible = visible; token = λ at. alone at rest }
 

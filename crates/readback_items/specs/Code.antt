@@ -25,7 +25,7 @@ judged_operands op operands = if has_form op (map as_slot operands) then map as_
 
 -- the instruction that the line of an instruction is judged as: with slots for objects, if its opcode has that form too
 abbrev pub judged_instruction : Instruction → Instruction
-judged_instruction i = record { op = i.op; operands = judged_operands i.op i.operands }
+judged_instruction i = record i { operands = judged_operands i.op i.operands }
 
 -- the item that the line of an item is judged as
 abbrev pub judged_kind : ItemKind → ItemKind

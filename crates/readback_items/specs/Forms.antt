@@ -3,7 +3,7 @@ use Rattle.std.specs.Prelude.{ℕ, ◌-◌, pos, false, nat_lt, if◌then◌else
 use Rattle.std.specs.List.{flat_map}
 use Rattle.rv64_instr.specs.declared.operand.Operand.{Operand}
 use Rattle.rv64_instr.specs.declared.operand.Operand.TheVariants.{Def, Use, ImplicitDef as SetsImplicit, ImplicitUse, Imm, Slot, Object, Part, Block, Symbol}
-use Rattle.rv64_instr.specs.declared.operand.Operand.TheVariants.{Outgoing}
+use Rattle.rv64_instr.specs.declared.operand.Operand.TheVariants.{Outgoing, GlobalRegisters}
 use Rattle.rv64_instr.specs.declared.operand.Operand.TheVariants.{Mask}
 use Rattle.rv64_instr.specs.declared.place.Place.{Place}
 use Rattle.rv64_instr.specs.declared.place.Place.TheVariants as place
@@ -52,6 +52,7 @@ operand_form (Slot n) = form.Slot n
 operand_form (Object n) = form.Slot n
 operand_form (Part half y) = form.Integer None
 operand_form (Outgoing n) = form.Integer None
+operand_form GlobalRegisters = form.Integer None
 operand_form (Block n) = form.Block n
 operand_form (Symbol name) = form.Symbol name
 operand_form Mask = form.Mask
@@ -67,6 +68,7 @@ set_register (Slot n) = []
 set_register (Object n) = []
 set_register (Part half y) = []
 set_register (Outgoing n) = []
+set_register GlobalRegisters = []
 set_register (Block n) = []
 set_register (Symbol name) = []
 set_register Mask = []
@@ -78,6 +80,7 @@ code_form i number loc = record {
   opcode = mnemonic_of i.op;
   operands = map operand_form (filter (λ o. not (is_definition o)) i.operands);
   no_return = false;
+  volatile = false;
   number = number;
   loc = loc;
   exceeds = false;
@@ -85,7 +88,7 @@ code_form i number loc = record {
 
 -- the form of a debug item's line: it has no registers before the `=`, and its numbers are operands
 abbrev pub debug_form : (opcode : List ℕ) → List OperandForm → Loc → ItemForm
-debug_form opcode operands loc = record { definitions = []; opcode = opcode; operands = operands; no_return = false; number = None; loc = loc; exceeds = false }
+debug_form opcode operands loc = record { definitions = []; opcode = opcode; operands = operands; no_return = false; volatile = false; number = None; loc = loc; exceeds = false }
 
 -- the expression of a `DBG_VALUE`: empty, or a fragment
 abbrev pub plain_expression : Option Bytes → Expression

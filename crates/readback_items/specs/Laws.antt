@@ -3,6 +3,7 @@ use Rattle.std.specs.Prelude.{◌≡◌, false, ℕ, ◌<◌, ◌≤◌, ◌++�
 use Rattle.std.specs.Fmt.{decimal}
 use Rattle.rv64_instr.specs.declared.operand.Operand.{Operand}
 use Rattle.rv64_instr.specs.declared.operand.Operand.TheVariants.{Def, Use, ImplicitDef, ImplicitUse, Imm, Slot, Object, Part, Outgoing, Block, Symbol, Mask}
+use Rattle.rv64_instr.specs.declared.operand.Operand.TheVariants.{GlobalRegisters}
 use Rattle.mir_func.specs.declared.item.Item.{Item}
 use Rattle.mir_func.specs.declared.item.ItemKind.{ItemKind}
 use Rattle.mir_func.specs.declared.item.ItemKind.TheVariants.{Code, Mark, Phi}
@@ -25,6 +26,7 @@ NameIsBytes (Slot n) = Unit {0}
 NameIsBytes (Object n) = Unit {0}
 NameIsBytes (Part half y) = Unit {0}
 NameIsBytes (Outgoing n) = Unit {0}
+NameIsBytes GlobalRegisters = Unit {0}
 NameIsBytes (Block n) = Unit {0}
 NameIsBytes Mask = Unit {0}
 

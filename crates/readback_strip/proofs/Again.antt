@@ -9,7 +9,7 @@ use Rattle.mir_func.specs.declared.location.Loc.{Loc}
 use Rattle.mir_func.specs.declared.position.Origin.{Origin}
 use Rattle.mir_func.specs.Function.{Function}
 use Rattle.mir_func.specs.Strip.{bare, stripped_items, stripped_blocks, stripped}
-use Rattle.readback_items.specs.Body.{label_line, item_line, body_lines}
+use Rattle.readback_functions.specs.readback_items.Body.{label_line, item_line, body_lines}
 use Rattle.readback_functions.specs.Declared.{name_line, stack_lines}
 use Rattle.readback_functions.specs.Stripped.{placed_items, placed_block, placed, document_of}
 

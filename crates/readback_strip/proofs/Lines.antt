@@ -11,7 +11,7 @@ use Rattle.mir_func.specs.Function.{Function}
 use Rattle.mir_func_printer.specs.FuncText.{name_text, slot_line as slot_text, local_text, object_numbers, object_line as object_text, stack_text}
 use Rattle.mir_func_printer.specs.FuncText.{item_line as item_line_text, block_text}
 use Rattle.mir_func_printer.specs.FuncText.{func_text}
-use Rattle.readback_items.specs.Body.{label_line, item_line, block_lines, body_lines}
+use Rattle.readback_functions.specs.readback_items.Body.{label_line, item_line, block_lines, body_lines}
 use Rattle.readback_functions.specs.Document.{fed, text_of_lines, document_lines}
 use Rattle.readback_functions.specs.Declared.{name_line, slot_line, line_end, object_line, entry_lines, stack_lines}
 use Rattle.readback_functions.specs.Stripped.{document_of}
@@ -76,7 +76,7 @@ blocks_fed (b ∷ bs) = fed_both (block_lines b) (body_lines bs) ∙ (λ i. bloc
 
 -- ---- functions
 
-regrouped : (a b c d e f g : List ℕ) → a ++ ((b ++ c) ++ (d ++ (e ++ (f ++ g)))) ≡ a ++ b ++ c ++ d ++ [] ++ e ++ f ++ g
+regrouped : (a b c d e f g : List ℕ) → a ++ ((b ++ c) ++ (d ++ (e ++ (f ++ g)))) ≡ a ++ b ++ c ++ (d ++ [] ++ e ++ f ++ g)
 regrouped a b c d e f g = simp (append_assoc, append-nil)
 
 pub function_fed : (f : Function) → text_of_lines (document_lines (document_of f)) ≡ func_text f []

@@ -11,14 +11,18 @@ use Rattle.read_metadata.specs.Maps.{Maps}
 use Rattle.read_metadata.specs.Metadata.{metadata_of}
 use Rattle.read_documents.specs.declared.parts.Documents.{Documents}
 use Rattle.read_documents.specs.Documents.{documents_of}
+use Rattle.mir_exposure.specs.declared.exposure.Exposure.TheVariants.{Nothing}
+use Rattle.mir_func.specs.Function.{Function}
 use Rattle.mir_func.specs.Strip.{stripped}
-use Rattle.read_program.specs.declared.closing.Parsed.{Parsed}
-use Rattle.read_program.specs.Program.{MAX_FUNCTIONS, FunctionsFrom, ReadsDocuments, ReadsText}
-use Rattle.read_program.proofs.Lists.{both}
+use Rattle.mir_func_printer.specs.FuncText.{func_text, linked_func_text}
+use Rattle.strip_command.specs.read_program.declared.closing.Parsed.{Parsed}
+use Rattle.strip_command.specs.read_program.Program.{MAX_FUNCTIONS, FunctionsFrom, ReadsDocuments, ReadsText}
+use Rattle.strip_command.proofs.read_program.Lists.{both}
 use Rattle.strip_command.specs.StripText.{stripped_func_text, stripped_text}
 use Rattle.readback_functions.specs.Document.{is_printed, IsLine, fed, text_of_lines, Document, document_lines, IsDocument, documents_at}
 use Rattle.readback_functions.proofs.Scans.{documents_read_back}
 use Rattle.readback_functions.specs.Stripped.{document_of, HasNamesOfBytes, reread}
+use Rattle.readback_functions.proofs.Exposed.{function_exposes_nothing, function_has_no_constants}
 use Rattle.readback_functions.proofs.Functions.{functions_read_back}
 use Rattle.readback_functions.specs.Bytes.{AreBytes}
 use Rattle.readback_functions.proofs.NameDocuments.{DocBytes}
@@ -56,11 +60,23 @@ functions_again meta again n before (q ∷ qs) few all =
 
 -- ---- the text
 
-text_is : (qs : List Parsed) → text_of_lines (flat_map document_lines (map strip_document qs)) ≡ stripped_text qs
-text_is [] = refl
-text_is (q ∷ qs) =
-    flat_map-append fed (document_lines (strip_document q)) (flat_map document_lines (map strip_document qs))
-    ∙ (λ i. function_fed (stripped q.func) i ++ text_is qs i)
+-- a function without constants that exposes nothing is printed as in the other language
+plain_text : (f : Function) → linked_func_text f [] [] Nothing ≡ func_text f []
+unfolding linked_func_text func_text
+plain_text f = refl
+
+plain_stripped : (meta : Maps) (q : Parsed) → IsGood meta q → func_text (stripped q.func) [] ≡ stripped_func_text q
+plain_stripped meta q good =
+    sym (plain_text (stripped q.func))
+    ∙ (λ i. linked_func_text (stripped q.func) (sym (function_has_no_constants meta good.0.doc q good.0.is.plain good.0.parses) i) []
+    (sym (function_exposes_nothing meta good.0.doc q good.0.is.plain good.0.parses) i))
+
+text_is : (meta : Maps) (qs : List Parsed) → All (IsGood meta) qs → text_of_lines (flat_map document_lines (map strip_document qs)) ≡ stripped_text qs
+text_is meta [] all = refl
+text_is meta (q ∷ qs) all =
+    let here = function_fed (stripped q.func) ∙ plain_stripped meta q (All-head (IsGood meta) q qs all) in
+    let rest = text_is meta qs (All-tail (IsGood meta) q qs all) in
+    flat_map-append fed (document_lines (strip_document q)) (flat_map document_lines (map strip_document qs)) ∙ (λ i. here i ++ rest i)
 
 is_document : (meta : Maps) (q : Parsed) → IsGood meta q → IsDocument (strip_document q)
 is_document meta q good = (functions_read_back meta good.0.doc q good.0.is.plain good.0.parses good.1).document
@@ -88,20 +104,24 @@ functions_bytes : (meta : Maps) (qs : List Parsed) → All (IsGood meta) qs → 
 functions_bytes meta [] all = All-nil (λ (b : ℕ). b < 256)
 functions_bytes meta (q ∷ qs) all =
     All-append (λ (b : ℕ). b < 256) (stripped_func_text q) (stripped_text qs)
-    (subst AreBytes (function_fed (stripped q.func))
+    (subst AreBytes (function_fed (stripped q.func) ∙ plain_stripped meta q (All-head (IsGood meta) q qs all))
     (lines_bytes (document_lines (strip_document q)) (is_document meta q (All-head (IsGood meta) q qs all)).printed))
     (functions_bytes meta qs (All-tail (IsGood meta) q qs all))
 
 -- ---- once more
 
-one_same : (q : Parsed) → stripped_func_text (reread q) ≡ stripped_func_text q
-one_same q =
-    sym (function_fed (stripped (reread q).func)) ∙ (ap (λ (d : Document). text_of_lines (document_lines d)) (document_again q.func)
-    ∙ function_fed (stripped q.func))
+one_same : (meta : Maps) (q : Parsed) → IsGood meta q → stripped_func_text (reread q) ≡ stripped_func_text q
+one_same meta q good =
+    plain_text (stripped (reread q).func)
+    ∙ (sym (function_fed (stripped (reread q).func)) ∙ (ap (λ (d : Document). text_of_lines (document_lines d)) (document_again q.func)
+    ∙ (function_fed (stripped q.func) ∙ plain_stripped meta q good)))
 
-texts_same : (qs : List Parsed) → stripped_text (map reread qs) ≡ stripped_text qs
-texts_same [] = refl
-texts_same (q ∷ qs) = λ i. one_same q i ++ texts_same qs i
+texts_same : (meta : Maps) (qs : List Parsed) → All (IsGood meta) qs → stripped_text (map reread qs) ≡ stripped_text qs
+texts_same meta [] all = refl
+texts_same meta (q ∷ qs) all =
+    let here = one_same meta q (All-head (IsGood meta) q qs all) in
+    let rest = texts_same meta qs (All-tail (IsGood meta) q qs all) in
+    λ i. here i ++ rest i
 
 -- ---- a program
 
@@ -110,7 +130,7 @@ text_read : (meta : Maps) (fs : List Parsed) → length fs ≤ MAX_FUNCTIONS →
 text_read meta fs few all =
     let ds = map strip_document fs in
     let documents = All-map IsDocument strip_document fs (All-weaker (IsGood meta) (λ q. IsDocument (strip_document q)) (is_document meta) fs all) in
-    let found = sym (ap (documents_of false) (text_is fs)) ∙ documents_read_back ds documents in
+    let found = sym (ap (documents_of false) (text_is meta fs all)) ∙ documents_read_back ds documents in
     subst (λ (x : Documents). ReadsDocuments x (Ok (record { functions = map reread fs; meta = metadata_of [] }))) (sym found)
     (Ok (map reread fs), functions_again meta (metadata_of []) 1 [] fs (omega (arith, few)) all, refl)
 
@@ -119,4 +139,4 @@ stripped_texts_are_read text p bytes reads =
     let meta = metadata_of (documents_of false text).meta in
     let read = program_read text p bytes reads in
     let all = both (WasRead DocBytes meta) (λ (q : Parsed). HasNamesOfBytes q.func) p.functions read.1 (names_are_of_bytes text p bytes reads) in
-    record { bytes = functions_bytes meta p.functions all; reads = text_read meta p.functions read.0 all; same = texts_same p.functions }
+    record { bytes = functions_bytes meta p.functions all; reads = text_read meta p.functions read.0 all; same = texts_same meta p.functions all }

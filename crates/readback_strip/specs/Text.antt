@@ -1,8 +1,8 @@
 -- The text of a program without its debug items, and the program that it is read as.
 use Rattle.std.specs.Prelude.{◌≡◌, false, ℕ, List, [], map, Ok}
 use Rattle.read_metadata.specs.Metadata.{metadata_of}
-use Rattle.read_program.specs.declared.program.Program.{Program}
-use Rattle.read_program.specs.Program.{ReadsText}
+use Rattle.strip_command.specs.read_program.declared.program.Program.{Program}
+use Rattle.strip_command.specs.read_program.Program.{ReadsText}
 use Rattle.strip_command.specs.StripText.{stripped_text}
 use Rattle.readback_functions.specs.Stripped.{reread}
 use Rattle.readback_functions.specs.Bytes.{AreBytes}

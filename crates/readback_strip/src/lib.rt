@@ -2,4 +2,6 @@
 //! does nothing.
 #![tactic(auto)]
 
+pub use strip_command as strip_command_crate;
+
 pub mod laws;

@@ -15,7 +15,7 @@ use Rattle.rv64_instr.specs.declared.operand.Operand.TheVariants.{Def, Use, Imm,
 use Rattle.rv64_instr.specs.Instruction.{Instruction}
 use Rattle.rv64_instr.specs.Arithmetic.{word, signed, extend32}
 use Rattle.rv64_instr.specs.Form.{has_form, has_12_bits, is_within, is_implicit, is_immediate}
-use Rattle.rv64_instr.specs.Row.{Fixes, row_of, row_by, add_row, move_row, immediate_row, object_row, implicit_uses, outgoing_words, held_call, held_tail}
+use Rattle.rv64_instr.specs.Row.{Fixes, row_of, row_by, add_row, move_row, immediate_row, object_row, implicit_uses, held_tail}
 use Rattle.rv64_instr.specs.Row.{held_gone}
 use Rattle.sem_mir.proofs.Range.{extend32_in_range}
 use Rattle.remat_pass.specs.Remat.{upper_part, constant_code}
@@ -26,10 +26,10 @@ abbrev pub IsConstant : ℕ → Type 0
 IsConstant n = (rd : ℕ) (rest : List Operand) → row_of (constant_code rd n rest) ≡ Fixes rd n
 
 abbrev adds : (rd n : ℕ) → List Operand → Instruction
-adds rd n rest = record { op = Immediate Addi; operands = Def rd ∷ Use 0 ∷ Imm (signed n) ∷ rest }
+adds rd n rest = record { op = Immediate Addi; operands = Def rd ∷ Use 0 ∷ Imm (signed n) ∷ rest; volatile = false }
 
 abbrev loads_upper : (rd n : ℕ) → List Operand → Instruction
-loads_upper rd n rest = record { op = Lui; operands = Def rd ∷ Imm (pos (upper_part n)) ∷ rest }
+loads_upper rd n rest = record { op = Lui; operands = Def rd ∷ Imm (pos (upper_part n)) ∷ rest; volatile = false }
 
 -- whatever the number, it is a constant definition
 pub constant_row : (rd n : ℕ) (rest : List Operand) → (m : ℕ) × (row_of (constant_code rd n rest) ≡ Fixes rd m)
@@ -80,10 +80,6 @@ by_move : (rd rs r n : ℕ) → move_row rd rs ≡ Fixes r n → IsConstant n
 by_move rd zero r n e = let w : 0 ≡ n = cc in subst IsConstant w constant_zero
 by_move rd (suc rs) r n e = cc
 
-held_call_fixes : (xs outgoing : List ℕ) (r n : ℕ) → held_call xs outgoing ≡ Fixes r n → ⊥
-held_call_fixes [] outgoing r n e = cc
-held_call_fixes (x ∷ xs) outgoing r n e = cc
-
 held_tail_fixes : (xs : List ℕ) (r n : ℕ) → held_tail xs ≡ Fixes r n → ⊥
 held_tail_fixes [] r n e = cc
 held_tail_fixes (x ∷ xs) r n e = cc
@@ -111,7 +107,7 @@ by_op Copy (Def rd ∷ Use rs ∷ rest) f r n e = by_move rd rs r n e
 by_op PseudoBr (Block target ∷ rest) f r n e = cc
 by_op PseudoCall (Symbol name ∷ rest) f r n e = cc
 by_op PseudoRet rest f r n e = cc
-by_op PseudoCallIndirect rest f r n e = absurd (held_call_fixes (implicit_uses rest) (outgoing_words rest) r n e)
+by_op PseudoCallIndirect (Use q ∷ rest) f r n e = cc
 by_op PseudoTail (Symbol name ∷ rest) f r n e = cc
 by_op PseudoTailIndirect rest f r n e = absurd (held_tail_fixes (implicit_uses rest) r n e)
 by_op NoReturnCall (Symbol name ∷ rest) f r n e = cc

@@ -1,7 +1,6 @@
 -- What followed a source follows it with constants set again.
 use Rattle.std.proofs.Common.{◌≡◌, List, [], ◌∷◌, All, true, false, refl, sym, ap, subst}
 use Rattle.std.proofs.lemmas.List.Elements.{All-head, All-tail}
-use Rattle.rv64_instr.specs.Row.{row_of}
 use Rattle.mir_func.specs.declared.debug_substitution.DebugSubstitution.{DebugSubstitution}
 use Rattle.mir_func.specs.declared.block.Block.{Block}
 use Rattle.mir_func.specs.declared.item.Item.{Item}
@@ -23,7 +22,7 @@ use Rattle.pass_salvage.proofs.Edits.{Edits, Edited, over, pair, BlocksEdited, n
 use Rattle.pass_salvage.proofs.EditRuns.{Keeps}
 use Rattle.pass_salvage.proofs.EditFollows.{Allows, follows_edited}
 use Rattle.remat_pass.specs.Known.{Known, nothing_known, known_past}
-use Rattle.remat_pass.specs.Remat.{constant_set, set_or_same, set_in, set_items, set_blocks, rematerialized}
+use Rattle.remat_pass.specs.Remat.{constant_for, set_or_same, set_in, set_items, set_blocks, rematerialized}
 use Rattle.remat_pass.proofs.Replaced.{replaced, row_replaced, kin_set}
 use Rattle.remat_pass.proofs.Runs.{AreConstants, Holds, past_constants, does_the_same, holds_past}
 
@@ -133,7 +132,7 @@ set_allows = record {
 
 counts_in : (known : Known) (k : ItemKind) → OnRow Counts k → OnRow Counts (set_in known k)
 counts_in known (Code i n) h =
-    row_replaced Counts (λ rd m. tt) known i (set_or_same (constant_set known (row_of i)) i) (replaced known i) h
+    row_replaced Counts (λ rd m. tt) known i (set_or_same (constant_for known i) i) (replaced known i) h
 counts_in known (Mark v m) h = h
 counts_in known (Phi p n) h = h
 

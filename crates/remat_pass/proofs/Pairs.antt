@@ -15,7 +15,7 @@ use Rattle.rv64_instr.specs.declared.operand.Operand.TheVariants.{Def, Use, Imm,
 use Rattle.rv64_instr.specs.Instruction.{Instruction}
 use Rattle.rv64_instr.specs.Arithmetic.{word, load_width, signed}
 use Rattle.rv64_instr.specs.Form.{has_form, has_12_bits, is_implicit, is_immediate, moves_slot}
-use Rattle.rv64_instr.specs.Row.{Row, Moves, LoadsSlot, row_of, row_by, move_row, immediate_row, object_row, implicit_uses, outgoing_words, held_call}
+use Rattle.rv64_instr.specs.Row.{Row, Moves, LoadsSlot, row_of, row_by, move_row, immediate_row, object_row, implicit_uses}
 use Rattle.rv64_instr.specs.Row.{held_tail, held_gone}
 use Rattle.rv64_instr.specs.LocationEffects.{is_call}
 use Rattle.sem_mir.specs.State.{Core, updated}
@@ -45,10 +45,6 @@ from_move : (rd rs r : ℕ) → SetsFrom r (move_row rd rs) → rd ≡ r
 from_move rd zero r h = absurd h
 from_move rd (suc rs) r h = h
 
-held_call_from : (xs outgoing : List ℕ) (r : ℕ) → SetsFrom r (held_call xs outgoing) → ⊥
-held_call_from [] outgoing r h = h
-held_call_from (x ∷ xs) outgoing r h = h
-
 held_tail_from : (xs : List ℕ) (r : ℕ) → SetsFrom r (held_tail xs) → ⊥
 held_tail_from [] r h = h
 held_tail_from (x ∷ xs) r h = h
@@ -75,7 +71,7 @@ begins Copy (Def rd ∷ Use rs ∷ rest) r h = (Use rs ∷ rest, ap (λ (d : ℕ
 begins PseudoBr (Block target ∷ rest) r h = absurd h
 begins PseudoCall (Symbol name ∷ rest) r h = absurd h
 begins PseudoRet rest r h = absurd h
-begins PseudoCallIndirect rest r h = absurd (held_call_from (implicit_uses rest) (outgoing_words rest) r h)
+begins PseudoCallIndirect (Use q ∷ rest) r h = absurd h
 begins PseudoTail (Symbol name ∷ rest) r h = absurd h
 begins PseudoTailIndirect rest r h = absurd (held_tail_from (implicit_uses rest) r h)
 begins NoReturnCall (Symbol name ∷ rest) r h = absurd h
@@ -108,7 +104,7 @@ alone Copy (Def rd ∷ Use rs ∷ rest) f r h =
 alone PseudoBr (Block target ∷ rest) f r h = absurd h
 alone PseudoCall (Symbol name ∷ rest) f r h = absurd h
 alone PseudoRet rest f r h = absurd h
-alone PseudoCallIndirect rest f r h = absurd (held_call_from (implicit_uses rest) (outgoing_words rest) r h)
+alone PseudoCallIndirect (Use q ∷ rest) f r h = absurd h
 alone PseudoTail (Symbol name ∷ rest) f r h = absurd h
 alone PseudoTailIndirect rest f r h = absurd (held_tail_from (implicit_uses rest) r h)
 alone NoReturnCall (Symbol name ∷ rest) f r h = absurd h
@@ -124,8 +120,8 @@ loads_from i rd s e = subst (SetsFrom rd) (sym e) refl
 -- what holds of the operands, and of x0 and numbers, holds of those of the constant definition
 module _ (P : Operand → Type 0) (zero_is : P (Use 0)) (number_is : (z : ℤ) → P (Imm z)) where
   constant_operands : (rd n : ℕ) (rest : List Operand) → P (Def rd) → All P rest → (b : Bool) →
-      All P (cond {A = Instruction} b (record { op = Immediate Addi; operands = Def rd ∷ Use 0 ∷ Imm (signed n) ∷ rest })
-      (record { op = Lui; operands = Def rd ∷ Imm (pos (upper_part n)) ∷ rest })).operands
+      All P (cond {A = Instruction} b (record { op = Immediate Addi; operands = Def rd ∷ Use 0 ∷ Imm (signed n) ∷ rest; volatile = false })
+      (record { op = Lui; operands = Def rd ∷ Imm (pos (upper_part n)) ∷ rest; volatile = false })).operands
   constant_operands rd n rest first kept true =
       All-cons P (Def rd) (Use 0 ∷ Imm (signed n) ∷ rest) first
       (All-cons P (Use 0) (Imm (signed n) ∷ rest) zero_is (All-cons P (Imm (signed n)) rest (number_is (signed n)) kept))
@@ -140,8 +136,8 @@ module _ (P : Operand → Type 0) (zero_is : P (Use 0)) (number_is : (z : ℤ) �
 
   pub operands_replaced : (known : Known) (i j : Instruction) → Replaced known i j → All P i.operands → All P j.operands
   operands_replaced known i j same h = h
-  operands_replaced known i j (moved {rd} {rs} {n} e w) h = from_first (suc rd) n i (moves_from i (suc rd) rs e) h
-  operands_replaced known i j (loaded {rd} {s} {n} e w) h = from_first rd n i (loads_from i rd s e) h
+  operands_replaced known i j (moved {rd} {rs} {n} plain e w) h = from_first (suc rd) n i (moves_from i (suc rd) rs e) h
+  operands_replaced known i j (loaded {rd} {s} {n} plain e w) h = from_first rd n i (loads_from i rd s e) h
 
 -- ---- numbers
 
@@ -162,11 +158,11 @@ numbered_alone sp call call' (Some k) rd os os' c c' h h' e =
 pub numbered_replaced : (sp : Bool) (known : Known) (i j : Instruction) (n : Option ℕ) → has_form i.op i.operands ≡ true → Replaced known i j → (e : Core) →
     numbered sp (is_call (row_of j)) n j.operands e ≡ numbered sp (is_call (row_of i)) n i.operands e
 numbered_replaced sp known i j n f same e = refl
-numbered_replaced sp known i j k f (moved {rd} {rs} {n} row w) e =
+numbered_replaced sp known i j k f (moved {rd} {rs} {n} plain row w) e =
     let c = constant_row (suc rd) n (filter is_implicit i.operands) in
     numbered_alone sp (is_call (row_of j)) (is_call (row_of i)) k (suc rd) j.operands i.operands (ap is_call c.1) (ap is_call row)
     (constant_alone (suc rd) n i.operands) (alone i.op i.operands f (suc rd) (moves_from i (suc rd) rs row)) e
-numbered_replaced sp known i j k f (loaded {rd} {s} {n} row w) e =
+numbered_replaced sp known i j k f (loaded {rd} {s} {n} plain row w) e =
     let c = constant_row rd n (filter is_implicit i.operands) in
     numbered_alone sp (is_call (row_of j)) (is_call (row_of i)) k rd j.operands i.operands (ap is_call c.1) (ap is_call row)
     (constant_alone rd n i.operands) (alone i.op i.operands f rd (loads_from i rd s row)) e

@@ -8,7 +8,7 @@ use Rattle.rv64_instr.specs.declared.op.ImmediateOp.TheVariants.{Addi}
 use Rattle.rv64_instr.specs.declared.operand.Operand.{Operand}
 use Rattle.rv64_instr.specs.declared.operand.Operand.TheVariants.{Def, Use, ImplicitDef, ImplicitUse, Imm}
 use Rattle.rv64_instr.specs.declared.place.Place.TheVariants.{Slot}
-use Rattle.rv64_instr.specs.Instruction.{Instruction}
+use Rattle.rv64_instr.specs.Instruction.{Instruction, is_volatile_load}
 use Rattle.rv64_instr.specs.Arithmetic.{signed}
 use Rattle.rv64_instr.specs.Form.{has_12_bits, is_implicit}
 use Rattle.rv64_instr.specs.Row.{Row, Fixes, Moves, LoadsSlot, Branches, Jumps, Returns, row_of}
@@ -18,42 +18,49 @@ use Rattle.sem_mir.specs.Step.{defined}
 use Rattle.sem_mir.specs.Follow.{SameEnd}
 use Rattle.pass_salvage.proofs.Kin.{RowKin, Kin, code_kin, kin_itself}
 use Rattle.remat_pass.specs.Known.{Known, number_in}
-use Rattle.remat_pass.specs.Remat.{constant_code, set_to, constant_set, set_or_same, set_in, upper_part}
+use Rattle.remat_pass.specs.Remat.{constant_code, set_to, constant_set, constant_for, set_or_same, set_in, upper_part}
 use Rattle.remat_pass.proofs.Forms.{all_implicit}
 use Rattle.remat_pass.proofs.Constants.{constant_row}
 
 -- what becomes of code: it stays, or it copied or loaded what holds a number that is known
 pub data Replaced (known : Known) (i : Instruction) : Instruction → Type 0 where
   same : Replaced known i i
-  moved : {rd rs n : ℕ} → row_of i ≡ Moves (suc rd) rs → number_in known rs ≡ Some n →
+  moved : {rd rs n : ℕ} → is_volatile_load i ≡ false → row_of i ≡ Moves (suc rd) rs → number_in known rs ≡ Some n →
       Replaced known i (constant_code (suc rd) n (filter is_implicit i.operands))
-  loaded : {rd s n : ℕ} → row_of i ≡ LoadsSlot rd s → known (Slot s) ≡ Some n → Replaced known i (constant_code rd n (filter is_implicit i.operands))
+  loaded : {rd s n : ℕ} → is_volatile_load i ≡ false → row_of i ≡ LoadsSlot rd s → known (Slot s) ≡ Some n →
+      Replaced known i (constant_code rd n (filter is_implicit i.operands))
 
-pub replaced : (known : Known) (i : Instruction) → Replaced known i (set_or_same (constant_set known (row_of i)) i)
-replaced known i = by_row (row_of i) refl where
-  by_move : (rd rs : ℕ) → row_of i ≡ Moves (suc rd) rs → (x : Option ℕ) → number_in known rs ≡ x → Replaced known i (set_or_same (set_to (suc rd) x) i)
-  by_move rd rs e None w = same
-  by_move rd rs e (Some n) w = moved e w
+pub replaced : (known : Known) (i : Instruction) → Replaced known i (set_or_same (constant_for known i) i)
+replaced known i = by_volatile (is_volatile_load i) refl where
+  by_move : is_volatile_load i ≡ false → (rd rs : ℕ) → row_of i ≡ Moves (suc rd) rs → (x : Option ℕ) → number_in known rs ≡ x →
+      Replaced known i (set_or_same (set_to (suc rd) x) i)
+  by_move plain rd rs e None w = same
+  by_move plain rd rs e (Some n) w = moved plain e w
 
-  by_load : (rd s : ℕ) → row_of i ≡ LoadsSlot rd s → (x : Option ℕ) → known (Slot s) ≡ x → Replaced known i (set_or_same (set_to rd x) i)
-  by_load rd s e None w = same
-  by_load rd s e (Some n) w = loaded e w
+  by_load : is_volatile_load i ≡ false → (rd s : ℕ) → row_of i ≡ LoadsSlot rd s → (x : Option ℕ) → known (Slot s) ≡ x →
+      Replaced known i (set_or_same (set_to rd x) i)
+  by_load plain rd s e None w = same
+  by_load plain rd s e (Some n) w = loaded plain e w
 
-  by_row : (r : Row) → row_of i ≡ r → Replaced known i (set_or_same (constant_set known r) i)
-  by_row (Moves zero rs) e = same
-  by_row (Moves (suc rd) rs) e = by_move rd rs e (number_in known rs) refl
-  by_row (LoadsSlot rd s) e = by_load rd s e (known (Slot s)) refl
-  by_row _ e = same
+  by_row : is_volatile_load i ≡ false → (r : Row) → row_of i ≡ r → Replaced known i (set_or_same (constant_set known r) i)
+  by_row plain (Moves zero rs) e = same
+  by_row plain (Moves (suc rd) rs) e = by_move plain rd rs e (number_in known rs) refl
+  by_row plain (LoadsSlot rd s) e = by_load plain rd s e (known (Slot s)) refl
+  by_row plain _ e = same
+
+  by_volatile : (v : Bool) → is_volatile_load i ≡ v → Replaced known i (set_or_same (cond v None (constant_set known (row_of i))) i)
+  by_volatile true e = same
+  by_volatile false e = by_row e (row_of i) refl
 
 -- ---- rows
 
 -- what holds of each row and of constant definitions holds of the row of what is set
 pub row_replaced : (P : Row → Type 0) → ((rd n : ℕ) → P (Fixes rd n)) → (known : Known) (i j : Instruction) → Replaced known i j → P (row_of i) → P (row_of j)
 row_replaced P fixed known i j same h = h
-row_replaced P fixed known i j (moved {rd} {rs} {n} e w) h =
+row_replaced P fixed known i j (moved {rd} {rs} {n} plain e w) h =
     let c = constant_row (suc rd) n (filter is_implicit i.operands) in
     subst P (sym c.1) (fixed (suc rd) c.0)
-row_replaced P fixed known i j (loaded {rd} {s} {n} e w) h =
+row_replaced P fixed known i j (loaded {rd} {s} {n} plain e w) h =
     let c = constant_row rd n (filter is_implicit i.operands) in
     subst P (sym c.1) (fixed rd c.0)
 
@@ -61,10 +68,10 @@ row_replaced P fixed known i j (loaded {rd} {s} {n} e w) h =
 pub row_stays : {A : Type 0} (h : Row → A) (v : A) → ((rd rs : ℕ) → h (Moves rd rs) ≡ v) → ((rd s : ℕ) → h (LoadsSlot rd s) ≡ v) →
     ((rd n : ℕ) → h (Fixes rd n) ≡ v) → (known : Known) (i j : Instruction) → Replaced known i j → h (row_of j) ≡ h (row_of i)
 row_stays h v move load fix known i j same = refl
-row_stays h v move load fix known i j (moved {rd} {rs} {n} e w) =
+row_stays h v move load fix known i j (moved {rd} {rs} {n} plain e w) =
     let c = constant_row (suc rd) n (filter is_implicit i.operands) in
     ap h c.1 ∙ (fix (suc rd) c.0 ∙ sym (ap h e ∙ move (suc rd) rs))
-row_stays h v move load fix known i j (loaded {rd} {s} {n} e w) =
+row_stays h v move load fix known i j (loaded {rd} {s} {n} plain e w) =
     let c = constant_row rd n (filter is_implicit i.operands) in
     ap h c.1 ∙ (fix rd c.0 ∙ sym (ap h e ∙ load rd s))
 
@@ -104,18 +111,29 @@ loads_kin rd s rd' m = record {
   edge = λ p q p' e. inl (e, refl);
 }
 
+-- a constant definition is no load
+constant_no_load : (rd n : ℕ) (rest : List Operand) → is_volatile_load (constant_code rd n rest) ≡ false
+constant_no_load rd n rest = by_bits (has_12_bits (signed n)) where
+  by_bits : (b : Bool) → is_volatile_load (cond {A = Instruction} b
+      (record { op = Immediate Addi; operands = Def rd ∷ Use 0 ∷ Imm (signed n) ∷ rest; volatile = false })
+      (record { op = Lui; operands = Def rd ∷ Imm (pos (upper_part n)) ∷ rest; volatile = false })) ≡ false
+  by_bits true = refl
+  by_bits false = refl
+
 code_replaced : (known : Known) (i j : Instruction) (n : Option ℕ) → Replaced known i j → Kin (Code i n) (Code j n)
 code_replaced known i j n same = kin_itself (Code i n)
-code_replaced known i j k (moved {rd} {rs} {n} e w) =
+code_replaced known i j k (moved {rd} {rs} {n} plain e w) =
     let c = constant_row (suc rd) n (filter is_implicit i.operands) in
     code_kin (subst (RowKin (row_of i)) (sym c.1) (subst (λ (r : Row). RowKin r (Fixes (suc rd) c.0)) (sym e) (moves_kin (suc rd) rs (suc rd) c.0)))
-code_replaced known i j k (loaded {rd} {s} {n} e w) =
+    (plain ∙ sym (constant_no_load (suc rd) n (filter is_implicit i.operands)))
+code_replaced known i j k (loaded {rd} {s} {n} plain e w) =
     let c = constant_row rd n (filter is_implicit i.operands) in
     code_kin (subst (RowKin (row_of i)) (sym c.1) (subst (λ (r : Row). RowKin r (Fixes rd c.0)) (sym e) (loads_kin rd s rd c.0)))
+    (plain ∙ sym (constant_no_load rd n (filter is_implicit i.operands)))
 
 -- a constant stands where code of its kind stood
 pub kin_set : (known : Known) (k : ItemKind) → Kin k (set_in known k)
-kin_set known (Code i n) = code_replaced known i (set_or_same (constant_set known (row_of i)) i) n (replaced known i)
+kin_set known (Code i n) = code_replaced known i (set_or_same (constant_for known i) i) n (replaced known i)
 kin_set known (Mark v m) = kin_itself (Mark v m)
 kin_set known (Phi p n) = kin_itself (Phi p n)
 
@@ -157,7 +175,7 @@ alone_three rd x y rest none also h (suc (suc (suc o))) = none_defined rest h o
 pub constant_alone : (rd n : ℕ) (os : List Operand) → DefinesAlone rd (constant_code rd n (filter is_implicit os)).operands
 constant_alone rd n os = by_bits (has_12_bits (signed n)) where
   by_bits : (b : Bool) → DefinesAlone rd (cond {A = Instruction} b
-      (record { op = Immediate Addi; operands = Def rd ∷ Use 0 ∷ Imm (signed n) ∷ filter is_implicit os })
-      (record { op = Lui; operands = Def rd ∷ Imm (pos (upper_part n)) ∷ filter is_implicit os })).operands
+      (record { op = Immediate Addi; operands = Def rd ∷ Use 0 ∷ Imm (signed n) ∷ filter is_implicit os; volatile = false })
+      (record { op = Lui; operands = Def rd ∷ Imm (pos (upper_part n)) ∷ filter is_implicit os; volatile = false })).operands
   by_bits true = alone_three rd (Use 0) (Imm (signed n)) (filter is_implicit os) refl refl (all_implicit os)
   by_bits false = alone_two rd (Imm (pos (upper_part n))) (filter is_implicit os) refl (all_implicit os)

@@ -17,9 +17,9 @@ use Rattle.sem_mir.specs.Effects.{held_in, OnCore}
 use Rattle.sem_mir.proofs.Outcomes.{on_weaker}
 use Rattle.sem_mir.proofs.Parts.{effects_hold}
 use Rattle.sem_mir.proofs.Places.{updated_same}
-use Rattle.sem_agreement.proofs.Outcomes.{on_with, on_all, on_given, held_told, held_numbered}
+use Rattle.pass_salvage.proofs.sem_agreement.Outcomes.{on_with, on_all, on_given, held_told, held_numbered}
 use Rattle.remat_pass.specs.Known.{Known, number_in, with_register, with_slot, forgotten, learned, known_past}
-use Rattle.remat_pass.specs.Remat.{constant_set, set_or_same, set_in}
+use Rattle.remat_pass.specs.Remat.{constant_for, set_or_same, set_in}
 use Rattle.remat_pass.proofs.Constants.{IsConstant, constant_zero, constant_of_form}
 use Rattle.remat_pass.proofs.Replaced.{Replaced, same, moved, loaded, replaced}
 use Rattle.remat_pass.proofs.Pairs.{numbered_replaced}
@@ -74,12 +74,12 @@ learned_constants _ known fixed h = h
 fixed_constant : (known : Known) (i j : Instruction) → AreConstants known → has_form i.op i.operands ≡ true → Replaced known i j → (rd n : ℕ) →
     row_of j ≡ Fixes rd n → IsConstant n
 fixed_constant known i j h f same rd n e = constant_of_form i f rd n e
-fixed_constant known i j h f (moved {rd} {rs} {n} row w) r m e =
+fixed_constant known i j h f (moved {rd} {rs} {n} plain row w) r m e =
     let c = number_constant known h rs n w in
     let k : Fixes (suc rd) n ≡ Fixes r m = sym (c (suc rd) (filter is_implicit i.operands)) ∙ e in
     let v : n ≡ m = cc in
     subst IsConstant v c
-fixed_constant known i j h f (loaded {rd} {s} {n} row w) r m e =
+fixed_constant known i j h f (loaded {rd} {s} {n} plain row w) r m e =
     let c = h (Slot s) n w in
     let k : Fixes rd n ≡ Fixes r m = sym (c rd (filter is_implicit i.operands)) ∙ e in
     let v : n ≡ m = cc in
@@ -87,7 +87,7 @@ fixed_constant known i j h f (loaded {rd} {s} {n} row w) r m e =
 
 pub past_constants : (known : Known) (k : ItemKind) → AreConstants known → HasForm k → AreConstants (known_past (set_in known k) known)
 past_constants known (Code i n) h f =
-    let j = set_or_same (constant_set known (row_of i)) i in
+    let j = set_or_same (constant_for known i) i in
     learned_constants (row_of j) (forgotten (row_of j) known) (fixed_constant known i j h f (replaced known i)) (forgotten_constants (row_of j) known h)
 past_constants known (Mark v m) h f = h
 past_constants known (Phi p n) h f = h
@@ -104,17 +104,17 @@ load_acts rd s n d e = rw e refl
 
 act_replaced : (known : Known) (d : Core) → AreConstants known → Holds known d → (i j : Instruction) → Replaced known i j → act (row_of j) d ≡ act (row_of i) d
 act_replaced known d k h i j same = refl
-act_replaced known d k h i j (moved {rd} {rs} {n} row w) =
+act_replaced known d k h i j (moved {rd} {rs} {n} plain row w) =
     ap (λ (r : Row). act r d) (number_constant known k rs n w (suc rd) (filter is_implicit i.operands)) ∙
     (move_acts (suc rd) rs n d (holds_register known d h rs n w) ∙ ap (λ (r : Row). act r d) (sym row))
-act_replaced known d k h i j (loaded {rd} {s} {n} row w) =
+act_replaced known d k h i j (loaded {rd} {s} {n} plain row w) =
     ap (λ (r : Row). act r d) (k (Slot s) n w rd (filter is_implicit i.operands)) ∙ (load_acts rd s n d (h (Slot s) n w) ∙ ap (λ (r : Row). act r d) (sym row))
 
 -- the constant does what the code did
 pub does_the_same : (g : Program) (known : Known) (d : Core) → AreConstants known → Holds known d → (k : ItemKind) → HasForm k →
     do_item g (set_in known k) d ≡ do_item g k d
 does_the_same g known d c h (Code i n) f =
-    let j = set_or_same (constant_set known (row_of i)) i in
+    let j = set_or_same (constant_for known i) i in
     let acts = act_replaced known d c h i j (replaced known i) in
     let numbers : (e : Core) → numbered g.sees_pointer (is_call (row_of j)) n j.operands e ≡ numbered g.sees_pointer (is_call (row_of i)) n i.operands e =
     numbered_replaced g.sees_pointer known i j n f (replaced known i) in

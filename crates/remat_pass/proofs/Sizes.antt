@@ -2,7 +2,6 @@
 use Rattle.std.proofs.Common.{◌≡◌, ℕ, suc, ◌+◌, ◌*◌, ◌≤◌, Some, None, List, [], ◌∷◌, ◌++◌, length, count_by, Bool, false, cond, refl, sym, ap, ◌∙◌, arith}
 use Rattle.std.specs.List.{flat_map}
 use Rattle.std.proofs.lemmas.List.Sums.{sum_by-cons}
-use Rattle.rv64_instr.specs.Row.{row_of}
 use Rattle.rv64_instr.specs.LocationEffects.{is_call}
 use Rattle.mir_func.specs.declared.debug_substitution.DebugSubstitution.{DebugSubstitution}
 use Rattle.mir_func.specs.declared.item.Item.{Item}
@@ -17,7 +16,7 @@ use Rattle.sem_mir.specs.Align.{is_code}
 use Rattle.pass_trait.specs.Change.{change}
 use Rattle.pass_trait.specs.Sizes.{greatest, most_numbers, numbers_of, KeepsSizes}
 use Rattle.remat_pass.specs.Known.{Known}
-use Rattle.remat_pass.specs.Remat.{constant_set, set_or_same, set_in, set_blocks, rematerialized}
+use Rattle.remat_pass.specs.Remat.{constant_for, set_or_same, set_in, set_blocks, rematerialized}
 use Rattle.remat_pass.specs.Partly.{MayBeSet, AreItemsSet, none, next}
 use Rattle.remat_pass.proofs.Replaced.{replaced, row_stays}
 use Rattle.remat_pass.proofs.Pairs.{operands_replaced}
@@ -48,7 +47,7 @@ code_kept known (Phi p n) = refl
 
 calls_kept : (known : Known) (k : ItemKind) → is_call_kind (set_in known k) ≡ is_call_kind k
 calls_kept known (Code i n) =
-    row_stays is_call false (λ rd rs. refl) (λ rd s. refl) (λ rd m. refl) known i (set_or_same (constant_set known (row_of i)) i) (replaced known i)
+    row_stays is_call false (λ rd rs. refl) (λ rd s. refl) (λ rd m. refl) known i (set_or_same (constant_for known i) i) (replaced known i)
 calls_kept known (Mark v m) = refl
 calls_kept known (Phi p n) = refl
 
@@ -60,7 +59,7 @@ numbers_kept known (Phi p n) = refl
 
 physical_kept : (known : Known) (k : ItemKind) → HasPhysical k → HasPhysical (set_in known k)
 physical_kept known (Code i n) h =
-    operands_replaced IsPhysical (omega arith) (λ z. tt) known i (set_or_same (constant_set known (row_of i)) i) (replaced known i) h
+    operands_replaced IsPhysical (omega arith) (λ z. tt) known i (set_or_same (constant_for known i) i) (replaced known i) h
 physical_kept known (Mark v m) h = h
 physical_kept known (Phi p n) h = h
 

@@ -1,7 +1,6 @@
 -- A function in which constants were set is a function still, wherever the pass stops.
 use Rattle.std.proofs.Common.{◌≡◌, ℕ, suc, ◌<◌, ◌≤◌, List, [], ◌∷◌, length, All, refl, sym, ap, ◌∙◌, subst, inl, inr, arith}
 use Rattle.std.proofs.lemmas.List.Elements.{All-cons, All-head, All-tail}
-use Rattle.rv64_instr.specs.Row.{row_of}
 use Rattle.mir_func.specs.declared.position.Origin.{Origin}
 use Rattle.mir_func.specs.declared.position.Origin.TheVariants.{Kept, Before}
 use Rattle.mir_func.specs.declared.block.Block.{Block}
@@ -18,7 +17,7 @@ use Rattle.mir_func.specs.Sound.{AreApart, ids_of, items_of, number_of, code_num
 use Rattle.mir_func.specs.Sound.{TargetsIn, SlotIn, PassedIn, SlotsIn, ObjectIn, ObjectsIn}
 use Rattle.mir_func.specs.Sound.{IsNotPointer, LeavesPointer, MayFollow, EndsWell, Closes, LastCloses, IsSound}
 use Rattle.remat_pass.specs.Known.{Known}
-use Rattle.remat_pass.specs.Remat.{constant_set, set_or_same, set_in, rematerialized}
+use Rattle.remat_pass.specs.Remat.{constant_for, set_or_same, set_in, rematerialized}
 use Rattle.remat_pass.specs.Partly.{MayBeSet, AreItemsSet, none, next, AreBlocksSet, no_blocks, next_block}
 use Rattle.remat_pass.proofs.Replaced.{replaced, row_replaced, row_stays}
 use Rattle.remat_pass.proofs.Pairs.{operands_replaced}
@@ -28,7 +27,7 @@ use Rattle.remat_pass.proofs.Partly.{kept_by, origin_kept, item_back, all_items_
 
 exit_kept : (known : Known) (k : ItemKind) → exit_of (set_in known k) ≡ exit_of k
 exit_kept known (Code i n) =
-    row_stays row_exit Onward (λ rd rs. refl) (λ rd s. refl) (λ rd m. refl) known i (set_or_same (constant_set known (row_of i)) i) (replaced known i)
+    row_stays row_exit Onward (λ rd rs. refl) (λ rd s. refl) (λ rd m. refl) known i (set_or_same (constant_for known i) i) (replaced known i)
 exit_kept known (Mark v m) = refl
 exit_kept known (Phi p n) = refl
 
@@ -43,33 +42,33 @@ number_kept known (Mark v m) = refl
 number_kept known (Phi p n) = refl
 
 targets_kept : (ids : List ℕ) (known : Known) (k : ItemKind) → TargetsIn ids k → TargetsIn ids (set_in known k)
-targets_kept ids known (Code i n) h = row_replaced (TargetIn ids) (λ rd m. tt) known i (set_or_same (constant_set known (row_of i)) i) (replaced known i) h
+targets_kept ids known (Code i n) h = row_replaced (TargetIn ids) (λ rd m. tt) known i (set_or_same (constant_for known i) i) (replaced known i) h
 targets_kept ids known (Mark v m) h = h
 targets_kept ids known (Phi p n) h = h
 
 slots_kept : (slots : List ℕ) (known : Known) (k : ItemKind) → SlotsIn slots k → SlotsIn slots (set_in known k)
 slots_kept slots known (Code i n) h = (
-  row_replaced (SlotIn slots) (λ rd m. tt) known i (set_or_same (constant_set known (row_of i)) i) (replaced known i) h.0,
-  operands_replaced (PassedIn slots) tt (λ z. tt) known i (set_or_same (constant_set known (row_of i)) i) (replaced known i) h.1,
+  row_replaced (SlotIn slots) (λ rd m. tt) known i (set_or_same (constant_for known i) i) (replaced known i) h.0,
+  operands_replaced (PassedIn slots) tt (λ z. tt) known i (set_or_same (constant_for known i) i) (replaced known i) h.1,
 )
 slots_kept slots known (Mark v m) h = h
 slots_kept slots known (Phi p n) h = h
 
 first_kept : (slots : List ℕ) (known : Known) (k : ItemKind) → KindPassesFirst slots k → KindPassesFirst slots (set_in known k)
 first_kept slots known (Code i n) h =
-    row_replaced (PassesFirst slots) (λ rd m. tt) known i (set_or_same (constant_set known (row_of i)) i) (replaced known i) h
+    row_replaced (PassesFirst slots) (λ rd m. tt) known i (set_or_same (constant_for known i) i) (replaced known i) h
 first_kept slots known (Mark v m) h = h
 first_kept slots known (Phi p n) h = h
 
 objects_kept : (objects : List Object) (known : Known) (k : ItemKind) → ObjectsIn objects k → ObjectsIn objects (set_in known k)
 objects_kept objects known (Code i n) h =
-    row_replaced (ObjectIn objects) (λ rd m. tt) known i (set_or_same (constant_set known (row_of i)) i) (replaced known i) h
+    row_replaced (ObjectIn objects) (λ rd m. tt) known i (set_or_same (constant_for known i) i) (replaced known i) h
 objects_kept objects known (Mark v m) h = h
 objects_kept objects known (Phi p n) h = h
 
 pointer_kept : (known : Known) (k : ItemKind) → LeavesPointer k → LeavesPointer (set_in known k)
 pointer_kept known (Code i n) h =
-    operands_replaced IsNotPointer (λ (e : 0 ≡ 2). cc) (λ z. tt) known i (set_or_same (constant_set known (row_of i)) i) (replaced known i) h
+    operands_replaced IsNotPointer (λ (e : 0 ≡ 2). cc) (λ z. tt) known i (set_or_same (constant_for known i) i) (replaced known i) h
 pointer_kept known (Mark v m) h = h
 pointer_kept known (Phi p n) h = h
 

@@ -1,5 +1,5 @@
 -- Rematerialization of constants: a copy or slot load of a known constant becomes its definition.
-use Rattle.std.specs.Prelude.{◌≡◌, ℕ, zero, suc, ◌/◌, ◌%◌, pos, List, [], ◌∷◌, map, filter, Option, Some, None, cond}
+use Rattle.std.specs.Prelude.{◌≡◌, ℕ, zero, suc, ◌/◌, ◌%◌, pos, List, [], ◌∷◌, map, filter, Option, Some, None, false, cond}
 use Rattle.rv64_instr.specs.declared.op.Op.TheVariants.{Immediate, Lui}
 use Rattle.rv64_instr.specs.declared.op.ImmediateOp.TheVariants.{Addi}
 use Rattle.rv64_instr.specs.declared.operand.Operand.{Operand}
@@ -7,7 +7,7 @@ use Rattle.rv64_instr.specs.declared.operand.Operand.TheVariants.{Def, Use, Imm}
 use Rattle.rv64_instr.specs.declared.place.Place.TheVariants.{Slot}
 use Rattle.rv64_instr.specs.Arithmetic.{signed}
 use Rattle.rv64_instr.specs.Form.{has_12_bits, is_implicit}
-use Rattle.rv64_instr.specs.Instruction.{Instruction}
+use Rattle.rv64_instr.specs.Instruction.{Instruction, is_volatile_load}
 use Rattle.rv64_instr.specs.Row.{Row, row_of}
 use Rattle.rv64_instr.specs.View.{OfRegister, OfSlot, Write, SetsRegister, write_of}
 use Rattle.mir_func.specs.declared.item.Item.{Item}
@@ -27,8 +27,8 @@ upper_part n = n / 4096 % 1048576
 -- appended
 abbrev pub constant_code : (rd n : ℕ) → List Operand → Instruction
 constant_code rd n rest = cond (has_12_bits (signed n))
-    (record { op = Immediate Addi; operands = Def rd ∷ Use 0 ∷ Imm (signed n) ∷ rest })
-    (record { op = Lui; operands = Def rd ∷ Imm (pos (upper_part n)) ∷ rest })
+    (record { op = Immediate Addi; operands = Def rd ∷ Use 0 ∷ Imm (signed n) ∷ rest; volatile = false })
+    (record { op = Lui; operands = Def rd ∷ Imm (pos (upper_part n)) ∷ rest; volatile = false })
 
 -- the constant for a register, if the number is known
 abbrev pub set_to : (rd : ℕ) → Option ℕ → Option Constant
@@ -50,14 +50,18 @@ constant_written known _ = None
 abbrev pub constant_set : Known → Row → Option Constant
 constant_set known row = constant_written known (write_of row)
 
+-- the known constant that may be set in place of an instruction: none for a volatile load, which stays
+abbrev pub constant_for : Known → Instruction → Option Constant
+constant_for known i = cond (is_volatile_load i) None (constant_set known (row_of i))
+
 -- the instruction replaced by a constant definition, which keeps its implicit operands
 abbrev pub set_or_same : Option Constant → Instruction → Instruction
 set_or_same None i = i
 set_or_same (Some c) i = constant_code c.register c.number (filter is_implicit i.operands)
 
--- the item with a constant definition in place of a copy or slot load of a known constant
+-- the item with a constant definition in place of a copy or slot load of a known constant, if the load isn't volatile
 abbrev pub set_in : Known → ItemKind → ItemKind
-set_in known (Code i k) = Code (set_or_same (constant_set known (row_of i)) i) k
+set_in known (Code i k) = Code (set_or_same (constant_for known i) i) k
 set_in known (Mark v m) = Mark v m
 set_in known (Phi p k) = Phi p k
 

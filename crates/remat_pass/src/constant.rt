@@ -1,6 +1,6 @@
 //! Constant definitions.
 
-ghost use Rattle.std.specs.Prelude.{◌≡◌, ◌++◌, ◌∷◌, IsTrue, IfOk, OnOk, filter, pos};
+ghost use Rattle.std.specs.Prelude.{◌≡◌, ◌++◌, ◌∷◌, false, IsTrue, IfOk, OnOk, filter, pos};
 ghost use Rattle.rv64_instr.specs.Form.{has_12_bits, is_implicit, is_within};
 ghost use Rattle.remat_pass.specs.Remat.{constant_code};
 
@@ -52,6 +52,7 @@ fn add_number(alloc: Global, rd: Reg, n: i64, operands: &[Operand]) -> Result<In
     ensures { IfOk result (λ i. i ≡ record {
       op = Op.Immediate ImmediateOp.Addi;
       operands = Operand.Def rd ∷ Operand.Use 0 ∷ Operand.Imm n ∷ filter is_implicit operands.now;
+      volatile = false;
     }) }
 {
     let mut list = Operands::new(alloc);
@@ -71,6 +72,7 @@ fn load_upper(alloc: Global, rd: Reg, n: i64, operands: &[Operand]) -> Result<In
     ensures { IfOk result (λ i. i ≡ record {
       op = Op.Lui;
       operands = Operand.Def rd ∷ Operand.Imm n ∷ filter is_implicit operands.now;
+      volatile = false;
     }) }
 {
     let mut list = Operands::new(alloc);
@@ -109,6 +111,7 @@ fn is_implicit(operand: &Operand) -> bool
         | Operand::Object(_)
         | Operand::Part(_, _)
         | Operand::Outgoing(_)
+        | Operand::GlobalRegisters
         | Operand::Block(_)
         | Operand::Symbol(_)
         | Operand::Mask => false,

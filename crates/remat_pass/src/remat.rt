@@ -1,18 +1,17 @@
 //! The pass that rematerializes constants.
 
 ghost use Rattle.std.specs.Prelude.{◌≡◌, [], ◌∷◌, All, IsTrue, OnOk, OnErr, true, false};
-ghost use Rattle.rv64_instr.specs.Row.{row_of};
 ghost use Rattle.rv64_instr.specs.Form.{has_form};
 ghost use Rattle.mir_func.specs.Sound.{AllItems, IsSound, HasForm};
 ghost use Rattle.remat_pass.specs.Known.{nothing_known};
 ghost use Rattle.remat_pass.specs.Table.{known_by};
-ghost use Rattle.remat_pass.specs.Remat.{constant_set, set_or_same, set_in, set_items, set_blocks, rematerialized};
+ghost use Rattle.remat_pass.specs.Remat.{constant_for, set_or_same, set_in, set_items, set_blocks, rematerialized};
 ghost use Rattle.remat_pass.specs.Partly.{AreItemsSet, AreBlocksSet};
 ghost use Rattle.remat_pass.specs.Pass.{remat_step};
 ghost use Rattle.remat_pass.specs.Laws.{one_rematerialized, same_rematerialized};
 ghost use Rattle.std.proofs.Common.{rules};
 
-use crate::constant::constant_code;
+use crate::constant::{Constant, constant_code};
 use crate::known::Known;
 use mir_func::block::Block;
 use mir_func::func::Func;
@@ -102,7 +101,8 @@ fn set_items(alloc: Global, items: &mut Vec<Item>) -> Result<(), AllocError>
     Ok(())
 }
 
-/// Replaces a copy or a load by a constant definition, if its value is known. After an error the item is unchanged.
+/// Replaces a copy or a load by a constant definition, if its value is known and the load isn't volatile. After an
+/// error the item is unchanged.
 fn set_in(alloc: Global, known: &Known, kind: &mut ItemKind) -> Result<(), AllocError>
     ensures code { OnOk result (kind.new ≡ set_in (known_by known.now.registers known.now.slots) kind.old) }
     ensures err { OnErr result (kind.new ≡ kind.old) }
@@ -116,12 +116,23 @@ fn set_in(alloc: Global, known: &Known, kind: &mut ItemKind) -> Result<(), Alloc
 
 fn set_code(alloc: Global, known: &Known, i: &mut Instr) -> Result<(), AllocError>
     ensures code { OnOk result (i.new
-        ≡ set_or_same (constant_set (known_by known.now.registers known.now.slots) (row_of i.old)) i.old) }
+        ≡ set_or_same (constant_for (known_by known.now.registers known.now.slots) i.old) i.old) }
     ensures err { OnErr result (i.new ≡ i.old) }
     ensures form { IsTrue (has_form i.old.op i.old.operands) }
 {
-    if let Some(c) = known.constant_set(&i.decoded()) {
+    if let Some(c) = constant_for(known, i) {
         *i = constant_code(alloc, c, i.operands.as_slice())?;
     }
     Ok(())
+}
+
+/// The known constant that may be set in place of an instruction: none for a volatile load, which stays.
+fn constant_for(known: &Known, i: &Instr) -> Option<Constant>
+    ensures { result ≡ constant_for (known_by known.now.registers known.now.slots) i.now }
+{
+    if i.is_volatile_load() {
+        None
+    } else {
+        known.constant_set(&i.decoded())
+    }
 }

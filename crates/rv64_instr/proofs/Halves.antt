@@ -25,7 +25,7 @@ use Rattle.rv64_instr.specs.Linked.{half_immediate}
 use Rattle.rv64_instr.specs.Instruction.{Instruction}
 use Rattle.rv64_instr.specs.LocationEffects.{part_named}
 use Rattle.rv64_instr.specs.Row.{Input, Content, Number, PartOf, Row, Sets, row_of, row_by, move_row, immediate_row, object_row}
-use Rattle.rv64_instr.specs.Row.{implicit_uses, outgoing_words, held_tail, held_call, held_gone}
+use Rattle.rv64_instr.specs.Row.{implicit_uses, held_tail, held_gone}
 use Rattle.rv64_instr.specs.steps.Linked.{first_part, early_part}
 use Rattle.rv64_instr.proofs.Tails.{last_arguments, held_tail_uses}
 
@@ -58,10 +58,6 @@ tail_none first (Part half y ∷ rest) h = absurd cc
 tail_none first (x ∷ []) h = refl
 tail_none first (x ∷ Part half y ∷ rest) h = absurd (let second = right (is_held_tail_use x) false h in cc)
 tail_none first _ h = refl
-
-pub held_call_part : (xs outgoing : List ℕ) → part_named (held_call xs outgoing) ≡ None
-held_call_part [] outgoing = refl
-held_call_part (x ∷ xs) outgoing = refl
 
 pub held_tail_part : (xs : List ℕ) → part_named (held_tail xs) ≡ None
 held_tail_part [] = refl
@@ -110,9 +106,7 @@ named_early PseudoBr (Block n ∷ Part half y ∷ rest) h = absurd cc
 named_early PseudoBr (Block n ∷ x ∷ rest) h = implicit_none rest (right (is_implicit x) (list_all is_implicit rest) h)
 named_early PseudoCall (Symbol name ∷ Mask ∷ rest) h = argument_none rest h
 named_early PseudoRet os h = result_none os h
-named_early PseudoCallIndirect (ImplicitUse r ∷ Mask ∷ rest) h =
-    held_call_part (implicit_uses (ImplicitUse r ∷ Mask ∷ rest)) (outgoing_words (ImplicitUse r ∷ Mask ∷ rest))
-    ∙ argument_none rest (right (is_call_register r) (list_all is_argument rest) h)
+named_early PseudoCallIndirect (Use r ∷ Mask ∷ rest) h = argument_none rest h
 named_early PseudoTail (Symbol name ∷ rest) h = tail_none (Symbol name) rest (held_tail_uses rest h)
 named_early PseudoTailIndirect (ImplicitUse r ∷ rest) h =
     held_tail_part (implicit_uses (ImplicitUse r ∷ rest))
@@ -150,10 +144,6 @@ move_adds : (rd rs : ℕ) → AddsPart (move_row rd rs)
 move_adds rd zero = tt
 move_adds rd (suc rs) = tt
 
-held_call_adds : (xs outgoing : List ℕ) → AddsPart (held_call xs outgoing)
-held_call_adds [] outgoing = tt
-held_call_adds (x ∷ xs) outgoing = tt
-
 held_tail_adds : (xs : List ℕ) → AddsPart (held_tail xs)
 held_tail_adds [] = tt
 held_tail_adds (x ∷ xs) = tt
@@ -182,7 +172,7 @@ adds_by Copy (Def rd ∷ Use rs ∷ rest) = move_adds rd rs
 adds_by PseudoBr (Block n ∷ rest) = tt
 adds_by PseudoCall (Symbol name ∷ rest) = tt
 adds_by PseudoRet os = tt
-adds_by PseudoCallIndirect os = held_call_adds (implicit_uses os) (outgoing_words os)
+adds_by PseudoCallIndirect (Use r ∷ rest) = tt
 adds_by PseudoTail (Symbol name ∷ rest) = tt
 adds_by PseudoTailIndirect os = held_tail_adds (implicit_uses os)
 adds_by NoReturnCall (Symbol name ∷ rest) = tt

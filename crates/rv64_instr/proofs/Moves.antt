@@ -11,7 +11,7 @@ use Rattle.rv64_instr.specs.declared.operand.Operand.TheVariants.{Def, Use, Imm,
 use Rattle.rv64_instr.specs.Arithmetic.{word}
 use Rattle.rv64_instr.specs.Instruction.{Instruction}
 use Rattle.rv64_instr.specs.Row.{Moves, row_of}
-use Rattle.rv64_instr.specs.Row.{row_by, move_row, add_row, immediate_row, object_row, implicit_uses, outgoing_words, held_tail, held_call, held_gone}
+use Rattle.rv64_instr.specs.Row.{row_by, move_row, add_row, immediate_row, object_row, implicit_uses, held_tail, held_gone}
 
 -- a copy's operands are what it sets and what it reads, and then others
 pub record MovesBy (os : List Operand) (rd s : ℕ) : Type 0 where
@@ -42,10 +42,6 @@ moves_object : (op : ImmediateOp) (rd n o r s : ℕ) → object_row op rd n o �
 moves_object Addi rd n o r s e = cc
 moves_object _ rd n o r s e = cc
 
-held_call_moves : (xs outgoing : List ℕ) (r s : ℕ) → held_call xs outgoing ≡ Moves r s → ⊥
-held_call_moves [] outgoing r s e = cc
-held_call_moves (x ∷ xs) outgoing r s e = cc
-
 held_tail_moves : (xs : List ℕ) (r s : ℕ) → held_tail xs ≡ Moves r s → ⊥
 held_tail_moves [] r s e = cc
 held_tail_moves (x ∷ xs) r s e = cc
@@ -70,7 +66,7 @@ moves_op Copy (Def rd ∷ Use a ∷ rest) r s e = moves_move rd a rest r s e
 moves_op PseudoBr (Block target ∷ rest) r s e = cc
 moves_op PseudoCall (Symbol name ∷ rest) r s e = cc
 moves_op PseudoRet os r s e = cc
-moves_op PseudoCallIndirect os r s e = absurd (held_call_moves (implicit_uses os) (outgoing_words os) r s e)
+moves_op PseudoCallIndirect (Use q ∷ rest) r s e = cc
 moves_op PseudoTail (Symbol name ∷ rest) r s e = cc
 moves_op PseudoTailIndirect os r s e = absurd (held_tail_moves (implicit_uses os) r s e)
 moves_op NoReturnCall (Symbol name ∷ rest) r s e = cc

@@ -18,7 +18,7 @@ use Rattle.rv64_instr.specs.Instruction.{Instruction}
 use Rattle.rv64_instr.specs.Arithmetic.{word}
 use Rattle.rv64_instr.specs.LocationEffects.{is_outgoing, defines_of}
 use Rattle.rv64_instr.specs.Row.{Row, CallSite, Calls, row_by, row_of, immediate_row, object_row, move_row, implicit_uses, outgoing_words}
-use Rattle.rv64_instr.specs.Row.{held_call, held_tail, held_gone}
+use Rattle.rv64_instr.specs.Row.{held_tail, held_gone}
 
 -- if it is a call, it passes these slots
 abbrev pub PassesOnly : List ℕ → Row → Type 0
@@ -37,10 +37,6 @@ object outgoing _ rd n offset = tt
 copies : (outgoing : List ℕ) (rd rs : ℕ) → PassesOnly outgoing (move_row rd rs)
 copies outgoing rd zero = tt
 copies outgoing rd (suc r) = tt
-
-held_call_passes : (xs outgoing : List ℕ) → PassesOnly outgoing (held_call xs outgoing)
-held_call_passes [] outgoing = tt
-held_call_passes (r ∷ xs) outgoing = refl
 
 held_tail_passes : (outgoing xs : List ℕ) → PassesOnly outgoing (held_tail xs)
 held_tail_passes outgoing [] = tt
@@ -66,7 +62,7 @@ by_op Copy (Def rd ∷ Use rs ∷ rest) = copies (outgoing_words rest) rd rs
 by_op PseudoBr (Block target ∷ rest) = tt
 by_op PseudoCall (Symbol name ∷ rest) = refl
 by_op PseudoRet rest = tt
-by_op PseudoCallIndirect rest = held_call_passes (implicit_uses rest) (outgoing_words rest)
+by_op PseudoCallIndirect (Use r ∷ rest) = refl
 by_op PseudoTail (Symbol name ∷ rest) = tt
 by_op PseudoTailIndirect rest = held_tail_passes (outgoing_words rest) (implicit_uses rest)
 by_op NoReturnCall (Symbol name ∷ rest) = tt

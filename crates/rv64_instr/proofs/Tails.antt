@@ -5,9 +5,10 @@ use Rattle.std.specs.List.{list_all}
 use Rattle.std.proofs.lemmas.Bool.{and_parts, leb-true, ltb-true, eqb-true}
 use Rattle.std.proofs.lemmas.List.Elements.{All-nil, All-cons}
 use Rattle.rv64_instr.specs.declared.operand.Operand.{Operand}
-use Rattle.rv64_instr.specs.declared.operand.Operand.TheVariants.{ImplicitDef, ImplicitUse, Symbol, Mask}
+use Rattle.rv64_instr.specs.declared.operand.Operand.TheVariants.{ImplicitDef, ImplicitUse, GlobalRegisters, Symbol, Mask}
 use Rattle.rv64_instr.specs.Form.{is_argument, is_last_argument, is_call_register, is_tail_register, is_tail_use, is_held_tail_register, is_held_tail_use}
-use Rattle.rv64_instr.specs.Form.{fits_call, fits_held_call, fits_gone, fits_held_gone}
+use Rattle.rv64_instr.specs.Form.{fits_call, fits_gone}
+use Rattle.rv64_instr.specs.LocationEffects.{is_global_register}
 use Rattle.rv64_instr.specs.Row.{implicit_uses}
 
 either : (a b : Bool) → (a || b) ≡ true → (a ≡ true) ⊎ (b ≡ true)
@@ -95,17 +96,18 @@ held_tails_low os e = uses_hold (λ r. r < 32) is_held_tail_use by_use os e wher
 pub arguments_low : (os : List Operand) → list_all is_argument os ≡ true → All (λ r. r < 32) (implicit_uses os)
 arguments_low os e = uses_hold (λ r. r < 32) is_argument (λ r h. inr (ltb-true r 32 h)) os e
 
-pub held_arguments_low : (r : ℕ) (os : List Operand) → (is_call_register r && list_all is_argument os) ≡ true →
-    All (λ r. r < 32) (implicit_uses (ImplicitUse r ∷ os))
-held_arguments_low r os e =
-    let p = and_parts (is_call_register r) (list_all is_argument os) e in
-    one_more (λ q. q < 32) r (implicit_uses os) (inr (held_callee r p.0).1) (arguments_low os p.1)
-
 pub held_low : (r : ℕ) (os : List Operand) → (is_held_tail_register r && list_all is_held_tail_use os) ≡ true →
     All (λ r. r < 32) (implicit_uses (ImplicitUse r ∷ os))
 held_low r os e =
     let p = and_parts (is_held_tail_register r) (list_all is_held_tail_use os) e in
     one_more (λ q. q < 32) r (implicit_uses os) (inr (callee_low r (tail_callee r p.0))) (held_tails_low os p.1)
+
+-- the registers that callers and callees share are x3 and x4
+pub global_low : (r : ℕ) → is_global_register r ≡ true → r ≤ 4
+global_low r e = elim (either (nat_eq r 3) (nat_eq r 4) e) as (λ _. r ≤ 4) [
+  | inl a ↦ (let x = eqb-true r 3 a in omega (arith, x))
+  | inr b ↦ (let x = eqb-true r 4 b in omega (arith, x))
+]
 
 -- ---- forms within others
 
@@ -120,6 +122,7 @@ all_wider p q wider (o ∷ os) e =
 last_wider : (o : Operand) → is_last_argument o ≡ true → is_argument o ≡ true
 last_wider (ImplicitDef r) e = e
 last_wider (ImplicitUse r) e = e
+last_wider GlobalRegisters e = e
 last_wider _ e = absurd cc
 
 or_more : (a b c : Bool) → (a || c) ≡ true → (a || (b || c)) ≡ true
@@ -129,6 +132,7 @@ or_more false false c e = e
 
 tail_wider : (o : Operand) → is_tail_use o ≡ true → is_held_tail_use o ≡ true
 tail_wider (ImplicitUse r) e = or_more (nat_eq r 2) (nat_eq r 6) (is_tail_register r) e
+tail_wider GlobalRegisters e = e
 tail_wider _ e = absurd cc
 
 -- what a call that doesn't return has, a call may have, and what a call by a name in tail position has, one by a register may have
@@ -142,10 +146,12 @@ pub gone_calls : (os : List Operand) → fits_gone os ≡ true → fits_call os 
 gone_calls (Symbol name ∷ Mask ∷ rest) e = last_arguments rest e
 gone_calls _ e = absurd cc
 
-pub held_gone_calls : (os : List Operand) → fits_held_gone os ≡ true → fits_held_call os ≡ true
-held_gone_calls (ImplicitUse r ∷ Mask ∷ rest) e =
-    let k = and_parts (is_call_register r) (list_all is_last_argument rest) e in
-    let first = k.0 in
-    let others = last_arguments rest k.1 in
-    λ i. first i && others i
-held_gone_calls _ e = absurd cc
+-- behind its callee a call that doesn't return has what a call may have
+pub held_gone_arguments : (r : ℕ) (os : List Operand) → (is_call_register r && list_all is_last_argument os) ≡ true → list_all is_argument os ≡ true
+held_gone_arguments r os e = last_arguments os (and_parts (is_call_register r) (list_all is_last_argument os) e).1
+
+pub held_gone_low : (r : ℕ) (os : List Operand) → (is_call_register r && list_all is_last_argument os) ≡ true →
+    All (λ r. r < 32) (implicit_uses (ImplicitUse r ∷ os))
+held_gone_low r os e =
+    let p = and_parts (is_call_register r) (list_all is_last_argument os) e in
+    one_more (λ q. q < 32) r (implicit_uses os) (inr (held_callee r p.0).1) (arguments_low os (held_gone_arguments r os e))

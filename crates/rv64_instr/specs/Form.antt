@@ -10,7 +10,7 @@ use Rattle.rv64_instr.specs.declared.op.Op.TheVariants.{PseudoBr, PseudoCall, Ps
 use Rattle.rv64_instr.specs.declared.op.Op.TheVariants.{PseudoTail, PseudoTailIndirect, NoReturnCall, NoReturnCallIndirect}
 use Rattle.rv64_instr.specs.declared.op.ImmediateOp.TheVariants.{Addi, Slti, Sltiu, Xori, Ori, Andi, Slli, Srli, Srai, Addiw, Slliw, Srliw, Sraiw}
 use Rattle.rv64_instr.specs.declared.operand.Operand.{Operand}
-use Rattle.rv64_instr.specs.declared.operand.Operand.TheVariants.{Def, Use, ImplicitDef, ImplicitUse, Imm, Slot, Object, Part, Block, Symbol, Mask, Outgoing}
+use Rattle.rv64_instr.specs.declared.operand.Operand.TheVariants.{Def, Use, ImplicitDef, ImplicitUse, Imm, Slot, Object, Part, Block, Symbol, Mask, Outgoing, GlobalRegisters}
 use Rattle.rv64_instr.specs.declared.symbol.Half.TheVariants.{Upper, Lower}
 use Rattle.rv64_instr.specs.Arithmetic.{load_width, store_width}
 
@@ -63,26 +63,29 @@ is_implicit _ = false
 abbrev pub is_clobbered : ℕ → Bool
 is_clobbered r = nat_le r 2 || (nat_le 5 r && nat_le r 7) || (nat_le 10 r && nat_le r 17) || (nat_le 28 r && nat_le r 31)
 
--- an implicit operand of a call: a use of any physical register, a definition of such a register, or a slot that it passes
+-- an implicit operand of a call: a use of any physical register, a definition of such a register, a slot that it passes, or the global registers
 abbrev pub is_argument : Operand → Bool
 is_argument (ImplicitDef r) = is_clobbered r
 is_argument (ImplicitUse r) = nat_lt r 32
 is_argument (Outgoing n) = true
+is_argument GlobalRegisters = true
 is_argument _ = false
 
 -- that of a call that doesn't return: it passes no slot, since the end of a run shows registers alone
 abbrev pub is_last_argument : Operand → Bool
 is_last_argument (ImplicitDef r) = is_clobbered r
 is_last_argument (ImplicitUse r) = nat_lt r 32
+is_last_argument GlobalRegisters = true
 is_last_argument _ = false
 
--- a register by which a call may name its callee: any but x2
+-- a register by which a call that doesn't return may name its callee: any but x2
 abbrev pub is_call_register : ℕ → Bool
 is_call_register r = not (nat_eq r 2) && nat_lt r 32
 
--- an implicit operand of a return: a use of x10 to x17
+-- an implicit operand of a return: a use of x10 to x17, or the global registers
 abbrev pub is_result : Operand → Bool
 is_result (ImplicitUse r) = nat_le 10 r && nat_le r 17
+is_result GlobalRegisters = true
 is_result _ = false
 
 -- a register that may hold an argument of a call in tail position, and that neither the epilogue sets nor the first word of a call by a name:
@@ -94,21 +97,23 @@ is_tail_register r = nat_eq r 7 || ((nat_le 10 r && nat_le r 17) || (nat_le 28 r
 abbrev pub is_held_tail_register : ℕ → Bool
 is_held_tail_register r = nat_eq r 6 || is_tail_register r
 
--- an implicit operand of a call in tail position: a use of x2 or of such a register
+-- an implicit operand of a call in tail position: a use of x2 or of such a register, or the global registers
 abbrev pub is_tail_use : Operand → Bool
 is_tail_use (ImplicitUse r) = nat_eq r 2 || is_tail_register r
+is_tail_use GlobalRegisters = true
 is_tail_use _ = false
 
 abbrev pub is_held_tail_use : Operand → Bool
 is_held_tail_use (ImplicitUse r) = nat_eq r 2 || is_held_tail_register r
+is_held_tail_use GlobalRegisters = true
 is_held_tail_use _ = false
 
--- an opcode of a call by a register: the first operand is the callee's register
-abbrev pub has_register_callee : Op → Bool
-has_register_callee PseudoCallIndirect = true
-has_register_callee PseudoTailIndirect = true
-has_register_callee NoReturnCallIndirect = true
-has_register_callee _ = false
+-- an opcode whose first operand is the callee's register and an implicit use. Passes rename explicit uses alone: in tail position the callee stays in
+-- a register that the epilogue doesn't set, and whatever leaves a function reads physical registers alone
+abbrev pub has_implicit_callee : Op → Bool
+has_implicit_callee PseudoTailIndirect = true
+has_implicit_callee NoReturnCallIndirect = true
+has_implicit_callee _ = false
 
 -- `rd = OP rs1, rs2`
 abbrev pub fits_registers : List Operand → Bool
@@ -164,12 +169,12 @@ abbrev pub fits_call : List Operand → Bool
 fits_call (Symbol name ∷ Mask ∷ rest) = list_all is_argument rest
 fits_call _ = false
 
--- `PseudoCALLIndirect`: the register is the first implicit use
+-- `PseudoCALLIndirect rs, mask`
 abbrev pub fits_held_call : List Operand → Bool
-fits_held_call (ImplicitUse r ∷ Mask ∷ rest) = is_call_register r && list_all is_argument rest
+fits_held_call (Use r ∷ Mask ∷ rest) = list_all is_argument rest
 fits_held_call _ = false
 
--- `PseudoCALL symbol, mask` of a function that doesn't return, and the same by a register
+-- `PseudoCALL symbol, mask` of a function that doesn't return, and the same by a register, which is the first implicit use
 abbrev pub fits_gone : List Operand → Bool
 fits_gone (Symbol name ∷ Mask ∷ rest) = list_all is_last_argument rest
 fits_gone _ = false
@@ -183,7 +188,7 @@ abbrev pub fits_tail : List Operand → Bool
 fits_tail (Symbol name ∷ rest) = list_all is_tail_use rest
 fits_tail _ = false
 
--- `PseudoTAILIndirect`
+-- `PseudoTAILIndirect rs`: the register is the first implicit use
 abbrev pub fits_held_tail : List Operand → Bool
 fits_held_tail (ImplicitUse r ∷ rest) = is_held_tail_register r && list_all is_held_tail_use rest
 fits_held_tail _ = false

@@ -11,3 +11,4 @@ pub mod Decoded
 pub mod LocationEffects
 pub mod Reserve
 pub mod steps
+pub use Rattle.base_ids.specs as base_ids

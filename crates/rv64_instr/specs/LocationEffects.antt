@@ -2,7 +2,7 @@
 use Rattle.std.specs.Prelude.{ℕ, zero, suc, ℤ, Bool, true, false, ◌||◌, ◌&&◌, List, [], ◌∷◌, Option, Some, None, nat_eq}
 use Rattle.std.specs.List.{list_any}
 use Rattle.rv64_instr.specs.declared.operand.Operand.{Operand}
-use Rattle.rv64_instr.specs.declared.operand.Operand.TheVariants.{ImplicitUse, Outgoing}
+use Rattle.rv64_instr.specs.declared.operand.Operand.TheVariants.{ImplicitUse, Outgoing, GlobalRegisters}
 use Rattle.rv64_instr.specs.declared.place.Place.{Place}
 use Rattle.rv64_instr.specs.declared.place.Place.TheVariants.{Register, Slot, Const}
 use Rattle.rv64_instr.specs.declared.effects.Effect.{Effect}
@@ -47,6 +47,11 @@ base_place (PointedBy r) = Some (Register r)
 base_place (ObjectAt n) = None
 base_place (BesidePart r y) = Some (Register r)
 
+-- the location that a callee's address is read from: none of a name's
+abbrev pub callee_place : Callee → Option Place
+callee_place (Named name) = None
+callee_place (Held r) = Some (Register r)
+
 -- the first location that it reads by explicit operands, in text order. A constant definition reads none
 abbrev pub first_use : Row → Option Place
 first_use (Fixes rd n) = None
@@ -59,7 +64,7 @@ first_use (LoadsSlot rd n) = Some (Slot n)
 first_use (StoresSlot rs n) = Some (Register rs)
 first_use (Branches op a b target) = Some (Register a)
 first_use (Jumps target) = None
-first_use (Calls call) = None
+first_use (Calls call) = callee_place call.callee
 first_use (Returns ending) = None
 first_use Unfit = None
 
@@ -250,9 +255,15 @@ abbrev pub names_slot : Option ℕ → ℕ → Bool
 names_slot (Some m) n = nat_eq m n
 names_slot None n = false
 
+-- the registers that callers and callees may share as global variables (RISC-V ELF psABI, "Integer Register Convention": gp and tp, which a call
+-- neither saves nor passes)
+abbrev pub is_global_register : ℕ → Bool
+is_global_register r = nat_eq r 3 || nat_eq r 4
+
 -- the operand is an implicit use of the register
 abbrev pub is_implicit_use : ℕ → Operand → Bool
 is_implicit_use r (ImplicitUse s) = nat_eq s r
+is_implicit_use r GlobalRegisters = is_global_register r
 is_implicit_use r _ = false
 
 -- the operand passes the frame slot to a callee

@@ -200,26 +200,22 @@ abbrev pub call_row : List Operand → Row
 call_row (Symbol name ∷ rest) = Calls (record { callee = Named name; args = implicit_uses rest; outgoing = outgoing_words rest })
 call_row _ = Unfit
 
--- a call of the code at the address that the first of these registers holds, with the others as arguments
-abbrev pub held_call : (uses outgoing : List ℕ) → Row
-held_call [] outgoing = Unfit
-held_call (r ∷ rest) outgoing = Calls (record { callee = Held r; args = rest; outgoing = outgoing })
-
--- LLVM's `PseudoCALLIndirect`. Its register, and that of the other ones by a register, is the first implicit use: passes rename explicit uses alone
+-- LLVM's `PseudoCALLIndirect`, a call of the code at the address that a register holds
 abbrev pub held_call_row : List Operand → Row
-held_call_row operands = held_call (implicit_uses operands) (outgoing_words operands)
+held_call_row (Use r ∷ rest) = Calls (record { callee = Held r; args = implicit_uses rest; outgoing = outgoing_words rest })
+held_call_row _ = Unfit
 
 -- LLVM's `PseudoTAIL`: the callee returns in the function's place, and the arguments are the registers of the implicit uses
 abbrev pub tail_row : List Operand → Row
 tail_row (Symbol name ∷ rest) = Returns (record { way = Tail (Named name); values = implicit_uses rest })
 tail_row _ = Unfit
 
--- a call in tail position by a register
+-- a call in tail position by the first of these registers, with the others as arguments
 abbrev pub held_tail : List ℕ → Row
 held_tail [] = Unfit
 held_tail (r ∷ rest) = Returns (record { way = Tail (Held r); values = rest })
 
--- LLVM's `PseudoTAILIndirect`
+-- LLVM's `PseudoTAILIndirect`. Its register, and that of a call that doesn't return, is the first implicit use: passes rename explicit uses alone
 abbrev pub held_tail_row : List Operand → Row
 held_tail_row operands = held_tail (implicit_uses operands)
 

@@ -21,6 +21,8 @@ ghost use Rattle.rv64_instr.specs.Row.{
   held_tail_row,
   gone_row,
   held_gone_row,
+  implicit_uses,
+  outgoing_words,
   move_row,
   add_row,
   immediate_row,
@@ -384,14 +386,7 @@ fn of_held_call(operands: &[Operand]) -> Decoded
     ensures { Shows result (held_call_row operands.now) }
 {
     match operands {
-        [Operand::ImplicitUse(r), Operand::Mask, ..] => {
-            // x2 is no callee
-            if r.number() == 2 {
-                unreachable!()
-            } else {
-                calls_held(*r)
-            }
-        }
+        [Operand::Use(r), rest @ ..] => calls_held(*r, rest),
         _ => unreachable!(),
     }
 }
@@ -450,9 +445,13 @@ fn of_held_gone(operands: &[Operand]) -> Decoded
     }
 }
 
-fn calls_held(r: Reg) -> Decoded
-    ensures { (args outgoing : List ℕ) →
-        Shows result (row.Calls (record { callee = row.Held r; args = args; outgoing = outgoing })) }
+/// What is passed isn't decoded.
+fn calls_held(r: Reg, _rest: &[Operand]) -> Decoded
+    ensures { Shows result (row.Calls (record {
+      callee = row.Held r;
+      args = implicit_uses _rest.now;
+      outgoing = outgoing_words _rest.now;
+    })) }
 {
     Decoded::Calls(Callee::Held(r))
 }

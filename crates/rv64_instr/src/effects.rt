@@ -7,10 +7,11 @@ ghost use Rattle.rv64_instr.specs.Row as row;
 ghost use Rattle.rv64_instr.specs.Row.{Row, row_of};
 ghost use Rattle.rv64_instr.specs.Decoded.{Shows, ShowsInput, ShowsBase, ShowsCallee};
 ghost use Rattle.rv64_instr.specs.LocationEffects.{effect_of, set_by, place_set, input_place, base_place};
-ghost use Rattle.rv64_instr.specs.LocationEffects.{moved_into, first_use};
+ghost use Rattle.rv64_instr.specs.LocationEffects.{moved_into, first_use, callee_place};
 ghost use Rattle.rv64_instr.specs.LocationEffects.{second_use, moved_by, constant_of, is_pure, is_call, uses_of};
 ghost use Rattle.rv64_instr.specs.LocationEffects.{defines_of};
 ghost use Rattle.rv64_instr.specs.LocationEffects.{slot_read, slot_set, is_implicit_use, is_outgoing, is_named};
+ghost use Rattle.rv64_instr.specs.LocationEffects.{is_global_register};
 ghost use Rattle.rv64_instr.specs.LocationEffects.{has_site};
 
 use crate::decoded::{Base, Callee, Decoded, Input, Way};
@@ -22,6 +23,9 @@ use base_ids::function_ids::SlotId;
 
 /// The numbers of the registers that a call sets, ascending (RISC-V ELF psABI, "Integer Register Convention").
 pub const CALLER_SAVED: [u32; 16] = [1, 5, 6, 7, 10, 11, 12, 13, 14, 15, 16, 17, 28, 29, 30, 31];
+
+/// The numbers of the registers that callers and callees may share as global variables (RISC-V ELF psABI: gp and tp).
+pub const GLOBAL_REGISTERS: [u32; 2] = [3, 4];
 
 /// The locations that an instruction sets, reads and moves.
 #[derive(Clone, Copy, Debug, PartialEq, Eq)]
@@ -77,9 +81,11 @@ impl Instr {
         ensures { result ≡ uses_of self.now (Place.Register r) }
     {
         match self.decoded() {
-            Decoded::Calls(_) | Decoded::Returns(_) => {
-                uses_implicitly(r, self.operands.as_slice())
+            Decoded::Calls(callee) => {
+                callee.place() == Some(Place::Register(r))
+                    || uses_implicitly(r, self.operands.as_slice())
             }
+            Decoded::Returns(_) => uses_implicitly(r, self.operands.as_slice()),
             Decoded::Moves(_, rs) => rs == r,
             Decoded::Sets(_, _, a, b) => a == r || b.place() == Some(Place::Register(r)),
             Decoded::Loads(_, _, base, _) => base.place() == Some(Place::Register(r)),
@@ -153,7 +159,18 @@ fn uses_implicitly(r: Reg, operands: &[Operand]) -> bool
 fn is_implicit_use(r: Reg, operand: &Operand) -> bool
     ensures { result ≡ is_implicit_use r operand.now }
 {
-    matches!(operand, Operand::ImplicitUse(s) if *s == r)
+    match operand {
+        Operand::ImplicitUse(s) => *s == r,
+        Operand::GlobalRegisters => is_global_register(r),
+        _ => false,
+    }
+}
+
+/// Whether callers and callees may share the register as a global variable.
+fn is_global_register(r: Reg) -> bool
+    ensures { result ≡ is_global_register r }
+{
+    r.number() == 3 || r.number() == 4
 }
 
 /// Whether a call sets the register.
@@ -217,10 +234,10 @@ impl Decoded {
             Decoded::LoadsSlot(_, n) => Some(Place::Slot(n)),
             Decoded::StoresSlot(rs, _) => Some(Place::Register(rs)),
             Decoded::Branches(_, a, _, _) => Some(Place::Register(a)),
+            Decoded::Calls(callee) => callee.place(),
             Decoded::Fixes(_, _)
             | Decoded::Addresses(_, _, _)
             | Decoded::Jumps(_)
-            | Decoded::Calls(_)
             | Decoded::Returns(_) => None,
         }
     }
@@ -399,6 +416,16 @@ fn moved_into(rd: Reg, rs: Reg) -> Option<Place>
 }
 
 impl Callee {
+    /// The location that the callee's address is read from: none of a name's.
+    pub fn place(self) -> Option<Place>
+        ensures { (c : row.Callee) → ShowsCallee self c → result ≡ callee_place c }
+    {
+        match self {
+            Callee::Named => None,
+            Callee::Held(r) => Some(Place::Register(r)),
+        }
+    }
+
     fn is_named(self) -> bool
         ensures { (c : row.Callee) → ShowsCallee self c → result ≡ is_named c }
     {

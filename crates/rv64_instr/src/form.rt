@@ -238,9 +238,7 @@ fn fits_held_call(operands: &[Operand]) -> bool
     ensures { result ≡ fits_held_call operands.now }
 {
     match operands {
-        [Operand::ImplicitUse(r), Operand::Mask, rest @ ..] => {
-            is_call_register(r.number()) && are_arguments(rest)
-        }
+        [Operand::Use(_), Operand::Mask, rest @ ..] => { are_arguments(rest) }
         _ => false,
     }
 }
@@ -337,7 +335,7 @@ fn is_argument(operand: &Operand) -> bool
     match operand {
         Operand::ImplicitDef(r) => is_clobbered(r.number()),
         Operand::ImplicitUse(r) => r.number() < 32,
-        Operand::Outgoing(_) => true,
+        Operand::Outgoing(_) | Operand::GlobalRegisters => true,
         _ => false,
     }
 }
@@ -349,11 +347,12 @@ fn is_last_argument(operand: &Operand) -> bool
     match operand {
         Operand::ImplicitDef(r) => is_clobbered(r.number()),
         Operand::ImplicitUse(r) => r.number() < 32,
+        Operand::GlobalRegisters => true,
         _ => false,
     }
 }
 
-/// Whether a call may name its callee by the register.
+/// Whether a call that doesn't return may name its callee by the register.
 fn is_call_register(n: u32) -> bool
     ensures { result ≡ is_call_register n }
 {
@@ -366,6 +365,7 @@ fn is_result(operand: &Operand) -> bool
 {
     match operand {
         Operand::ImplicitUse(r) => 10 <= r.number() && r.number() <= 17,
+        Operand::GlobalRegisters => true,
         _ => false,
     }
 }
@@ -383,6 +383,7 @@ fn is_tail_use(operand: &Operand) -> bool
 {
     match operand {
         Operand::ImplicitUse(r) => r.number() == 2 || is_tail_register(r.number()),
+        Operand::GlobalRegisters => true,
         _ => false,
     }
 }
@@ -393,6 +394,7 @@ fn is_held_tail_use(operand: &Operand) -> bool
 {
     match operand {
         Operand::ImplicitUse(r) => r.number() == 2 || is_held_tail_register(r.number()),
+        Operand::GlobalRegisters => true,
         _ => false,
     }
 }

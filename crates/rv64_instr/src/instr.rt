@@ -15,6 +15,8 @@ pub struct Instr {
     pub op: Op,
     /// The operands in text order, counted from 0, definitions first.
     pub operands: Operands,
+    /// Whether its access of memory, if it has one, is volatile (LLVM Language Reference, "Volatile Memory Accesses").
+    pub volatile: bool,
 }
 
 impl Model for Instr {
@@ -25,23 +27,48 @@ impl Model for Instr {
     ghost use Rattle.std.specs.Prelude.{IsTrue};
     ghost use Rattle.rv64_instr.specs.Form.{has_form};
 
-    ghost view = { λ i. record { op = i.op; operands = i.operands } };
+    ghost view = { λ i. record { op = i.op; operands = i.operands; volatile = i.volatile } };
 
     ghost invariant = { λ i. IsTrue (has_form i.op i.operands) };
 }
 
 impl Instr {
     ghost use Rattle.rv64_instr.specs.Form.{has_form};
+    ghost use Rattle.rv64_instr.specs.Instruction.{is_volatile_load};
 
-    /// The instruction of an opcode and its operands, and `None` exactly if they don't have its form.
+    /// The instruction of an opcode and its operands, which isn't volatile, and `None` exactly if they don't have its
+    /// form.
     pub fn new(op: Op, operands: Operands) -> Option<Instr>
         ensures none { IsNone result ↔ (has_form op operands ≡ false) }
-        ensures value { IfSome result (λ i. i ≡ record { op = op; operands = operands }) }
+        ensures value { IfSome result (λ i. i ≡ record { op = op; operands = operands; volatile = false }) }
     {
         if has_form(op, operands.as_slice()) {
-            Some(Instr { op, operands })
+            Some(Instr {
+                op,
+                operands,
+                volatile: false,
+            })
         } else {
             None
+        }
+    }
+
+    /// Whether it is a volatile load. It may have effects that memory's content doesn't show, so passes leave it where
+    /// it is. It takes no memory.
+    pub fn is_volatile_load(&self) -> bool
+        ensures { result ≡ is_volatile_load self.now }
+    {
+        self.op.is_load() && self.volatile
+    }
+
+    /// The same instruction, volatile or not.
+    pub fn with_volatile(self, volatile: bool) -> Instr
+        ensures { result ≡ record self { volatile = volatile } }
+    {
+        Instr {
+            op: self.op,
+            operands: self.operands,
+            volatile,
         }
     }
 
@@ -52,6 +79,7 @@ impl Instr {
         Ok(Instr {
             op: self.op,
             operands: self.operands.copy()?,
+            volatile: self.volatile,
         })
     }
 }

@@ -3,6 +3,9 @@
 //! user of it checks this again.
 #![tactic(auto)]
 
+pub use base_ids as base_ids_crate;
+pub use base_list as base_list_crate;
+
 pub mod arithmetic;
 pub mod decoded;
 pub mod effects;

@@ -1,7 +1,8 @@
 //! Opcodes, in classes that have the same form of operands, and their names.
 
 ghost use Rattle.std.specs.Prelude.{◌≡◌, Some, IfSome};
-ghost use Rattle.rv64_instr.specs.Form.{has_register_callee};
+ghost use Rattle.rv64_instr.specs.Instruction.{is_load};
+ghost use Rattle.rv64_instr.specs.Form.{has_implicit_callee};
 ghost use Rattle.rv64_instr.specs.Mnemonic.{mnemonic_of, register_name, immediate_name, branch_name, load_name};
 ghost use Rattle.rv64_instr.specs.Mnemonic.{store_name, Names, NamesByPlace, NamesElsewhere};
 ghost use Rattle.rv64_instr.specs.steps.Names.{NamesByValue, callee_named};
@@ -222,14 +223,18 @@ impl Op {
         }
     }
 
-    /// Whether it is the opcode of a call by a register, whose first operand is the callee's register.
-    pub fn has_register_callee(self) -> bool
-        ensures { result ≡ has_register_callee self }
+    /// Whether its first operand is the callee's register and an implicit use.
+    pub fn has_implicit_callee(self) -> bool
+        ensures { result ≡ has_implicit_callee self }
     {
-        matches!(
-            self,
-            Op::PseudoCallIndirect | Op::PseudoTailIndirect | Op::NoReturnCallIndirect
-        )
+        matches!(self, Op::PseudoTailIndirect | Op::NoReturnCallIndirect)
+    }
+
+    /// Whether it is the opcode of a load.
+    pub fn is_load(self) -> bool
+        ensures { result ≡ is_load self }
+    {
+        matches!(self, Op::Load(_))
     }
 
     /// The opcode of a name in MIR, and `None` exactly if no opcode has that name.

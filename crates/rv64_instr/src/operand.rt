@@ -32,6 +32,9 @@ pub enum Operand {
     Part(Half, LinkedAddress),
     /// A frame slot that a call passes to its callee, as an argument on the stack.
     Outgoing(SlotId),
+    /// The registers that callers and callees may share as global variables: x3 and x4. A call, a call in tail position or
+    /// a return that has it reads them; they are no arguments and no results.
+    GlobalRegisters,
     /// A block.
     Block(BlockId),
     /// The function that a call names.
@@ -56,6 +59,7 @@ impl Operand {
             Operand::Object(n) => Ok(Operand::Object(*n)),
             Operand::Part(half, address) => Ok(Operand::Part(*half, address.copy()?)),
             Operand::Outgoing(n) => Ok(Operand::Outgoing(*n)),
+            Operand::GlobalRegisters => Ok(Operand::GlobalRegisters),
             Operand::Block(n) => Ok(Operand::Block(*n)),
             Operand::Symbol(name) => Ok(Operand::Symbol(name.copy()?)),
             Operand::Mask => Ok(Operand::Mask),

@@ -21,10 +21,9 @@ use Rattle.rv64_instr.specs.Form.{is_within}
 use Rattle.rv64_instr.specs.Linked.{half_immediate, linked_address, linked_immediate}
 use Rattle.rv64_instr.specs.LocationEffects.{part_named, part_address, part_half}
 use Rattle.rv64_instr.specs.Row.{Row, Sets, Loads, Stores, Content, Number, PartOf, PointedBy, ObjectAt, BesidePart, row_of, row_by, implicit_uses}
-use Rattle.rv64_instr.specs.Row.{outgoing_words}
 use Rattle.rv64_instr.specs.View.{Class, class_of}
 use Rattle.rv64_instr.specs.View as class
-use Rattle.rv64_instr.proofs.Halves.{number_part, object_part, move_part, lower_by, below_zero, held_call_part, held_tail_part, held_gone_part}
+use Rattle.rv64_instr.proofs.Halves.{number_part, object_part, move_part, lower_by, below_zero, held_tail_part, held_gone_part}
 use Rattle.rv64_word.specs.declared.format.EncodingField.{EncodingField}
 use Rattle.rv64_word.specs.declared.format.EncodingField.TheVariants.{Opcode, Rd, Funct3, Rs1, Rs2, Imm as Immediate12}
 use Rattle.rv64_word.specs.declared.format.Format.{Format}
@@ -244,8 +243,7 @@ fields_link (Store o) (Use rs ∷ Use base ∷ Part half y ∷ rest) offset obje
 fields_link Copy (Def rd ∷ Use rs ∷ rest) offset object m e p is = absurd (none_some p (sym (move_part rd rs) ∙ is))
 fields_link PseudoBr (Block n ∷ rest) offset object m e p is = absurd (none_some p is)
 fields_link PseudoRet operands offset object m e p is = absurd (none_some p is)
-fields_link PseudoCallIndirect operands offset object m e p is =
-    absurd (none_some p (sym (held_call_part (implicit_uses operands) (outgoing_words operands)) ∙ is))
+fields_link PseudoCallIndirect (Use r ∷ rest) offset object m e p is = absurd (none_some p is)
 fields_link PseudoTailIndirect operands offset object m e p is = absurd (none_some p (sym (held_tail_part (implicit_uses operands)) ∙ is))
 fields_link NoReturnCallIndirect operands offset object m e p is = absurd (none_some p (sym (held_gone_part (implicit_uses operands)) ∙ is))
 fields_link o operands offset object m e p is = absurd (apart m e)

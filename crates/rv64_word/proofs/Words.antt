@@ -17,7 +17,7 @@ use Rattle.rv64_instr.specs.declared.operand.Operand.TheVariants.{Def, Use, Imm,
 use Rattle.rv64_instr.specs.Row.{PointedBy}
 use Rattle.rv64_instr.specs.Arithmetic.{word}
 use Rattle.rv64_instr.specs.Row.{Row, Loads, Stores, row_of, row_by, add_row, immediate_row, move_row}
-use Rattle.rv64_instr.specs.Row.{number_row, object_row, load_row, store_row, implicit_uses, outgoing_words, held_call, held_tail, held_gone}
+use Rattle.rv64_instr.specs.Row.{number_row, object_row, load_row, store_row, implicit_uses, held_tail, held_gone}
 use Rattle.rv64_word.specs.declared.machine_op.MachineOp.{MachineOp}
 use Rattle.rv64_word.specs.declared.word_op.WordOp.TheVariants as op
 use Rattle.rv64_word.specs.MachineOp.{is_encodable}
@@ -113,10 +113,6 @@ store_acts o (Use rs ∷ Object n ∷ Imm i ∷ rest) offset object address m e 
 store_acts o (Use rs ∷ Use base ∷ Part half y ∷ rest) offset object address m e = at_same address _ _ m e refl
 store_acts o operands offset object address m e = absurd (apart m e)
 
-held_call_acts : (xs outgoing : List ℕ) (offset : ℤ) (object address : ℕ) → Acts (held_fields 1 xs) offset object address (held_call xs outgoing)
-held_call_acts [] outgoing offset object address m e = absurd (apart m e)
-held_call_acts (r ∷ xs) outgoing offset object address m e = at_same address _ _ m e refl
-
 held_tail_acts : (xs : List ℕ) (offset : ℤ) (object address : ℕ) → Acts (held_fields 0 xs) offset object address (held_tail xs)
 held_tail_acts [] offset object address m e = absurd (apart m e)
 held_tail_acts (r ∷ xs) offset object address m e = at_same address _ _ m e refl
@@ -138,7 +134,7 @@ fields_act Copy (Def rd ∷ Use rs ∷ rest) offset object address m e =
     at_same address _ _ m e (copied rd rs address (at_offset address offset) object (pos 0))
 fields_act PseudoBr (Block n ∷ rest) offset object address m e = at_same address _ _ m e refl
 fields_act PseudoRet rest offset object address m e = at_same address _ _ m e refl
-fields_act PseudoCallIndirect rest offset object address m e = held_call_acts (implicit_uses rest) (outgoing_words rest) offset object address m e
+fields_act PseudoCallIndirect (Use r ∷ rest) offset object address m e = at_same address _ _ m e refl
 fields_act PseudoTailIndirect rest offset object address m e = held_tail_acts (implicit_uses rest) offset object address m e
 fields_act NoReturnCallIndirect rest offset object address m e = held_gone_acts (implicit_uses rest) offset object address m e
 fields_act o operands offset object address m e = absurd (apart m e)

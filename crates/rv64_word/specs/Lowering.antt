@@ -93,6 +93,11 @@ jump_fields _ offset = None
 abbrev pub return_op : MachineOp
 return_op = machine_op Jalr 0 1 0 (pos 0)
 
+-- a call of the code at the address that a register holds is `JALR x1, 0(r)`
+abbrev pub held_call_fields : List Operand → Option MachineOp
+held_call_fields (Use r ∷ rest) = Some (machine_op Jalr 1 r 0 (pos 0))
+held_call_fields _ = None
+
 -- a jump to the address that the first of these registers holds is `JALR link, 0(r)`
 abbrev pub held_fields : (link : ℕ) → List ℕ → Option MachineOp
 held_fields link [] = None
@@ -110,7 +115,7 @@ fields_of source.Copy operands offset object = copy_fields operands
 fields_of source.PseudoBr operands offset object = jump_fields operands offset
 fields_of source.PseudoCall operands offset object = None
 fields_of source.PseudoRet operands offset object = Some return_op
-fields_of source.PseudoCallIndirect operands offset object = held_fields 1 (implicit_uses operands)
+fields_of source.PseudoCallIndirect operands offset object = held_call_fields operands
 fields_of source.PseudoTail operands offset object = None
 fields_of source.PseudoTailIndirect operands offset object = held_fields 0 (implicit_uses operands)
 fields_of source.NoReturnCall operands offset object = None

@@ -34,6 +34,7 @@ ghost use Rattle.rv64_word.specs.Lowering.{
   store_fields,
   copy_fields,
   jump_fields,
+  held_call_fields,
   held_fields,
   in_range,
   machine_op,
@@ -41,7 +42,7 @@ ghost use Rattle.rv64_word.specs.Lowering.{
 
 use crate::machine_op::MachineOp;
 use crate::word_op::WordOp;
-use base_ids::function_ids::ObjectId;
+use rv64_instr::base_ids_crate::function_ids::ObjectId;
 use rv64_instr::decoded::{Base, Decoded};
 use rv64_instr::instr::Instr;
 use rv64_instr::op::{BranchOp, ImmediateOp, LoadOp, Op, RegisterOp, StoreOp};
@@ -295,17 +296,10 @@ fn of_jump(operands: &[Operand], offset: i64) -> MachineOp
 
 fn of_held_call(operands: &[Operand]) -> MachineOp
     requires { IsTrue (fits_held_call operands.now) }
-    ensures { Some result ≡ held_fields 1 (implicit_uses operands.now) }
+    ensures { Some result ≡ held_call_fields operands.now }
 {
     match operands {
-        [Operand::ImplicitUse(r), ..] => {
-            // x2 is no callee
-            if r.number() == 2 {
-                unreachable!()
-            } else {
-                machine_op(WordOp::Jalr, 1, r.number(), 0, 0)
-            }
-        }
+        [Operand::Use(r), ..] => machine_op(WordOp::Jalr, 1, r.number(), 0, 0),
         _ => unreachable!(),
     }
 }

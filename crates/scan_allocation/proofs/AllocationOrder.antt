@@ -3,7 +3,7 @@ use Rattle.std.proofs.Common.{◌≡◌, ℕ, zero, suc, ◌<◌, List, [], ◌�
 use Rattle.std.specs.List.{list_all}
 use Rattle.std.proofs.lemmas.Bool.{and_parts, ltb-true}
 use Rattle.std.proofs.lemmas.List.Elements.{All-nil, All-cons}
-use Rattle.spill_rule.proofs.Scratch.{kept_by}
+use Rattle.spill_select.proofs.spill_rule.Scratch.{kept_by}
 use Rattle.spill_select.specs.Incoming.{is_among}
 use Rattle.scan_allocation.specs.Walk.{ORDER, order_without}
 

@@ -1,5 +1,5 @@
 -- The allocation is a coloring: where code sets a register, each other register that is live after it is elsewhere.
-use Rattle.std.proofs.Common.{◌≡◌, ◌⊎◌, inl, inr, ℕ, zero, suc, ◌<◌, ◌≤◌, List, []}
+use Rattle.std.proofs.Common.{◌≡◌, inl, inr, ℕ, zero, suc, ◌<◌, ◌≤◌, List, []}
 use Rattle.std.proofs.Common.{◌∷◌, drop, Contains, Option, Some, None, Bool, true, false, ◌&&◌, ◌||◌}
 use Rattle.std.proofs.Common.{nat_le, nat_eq, eq-eqb, slice_get, refl, sym, ap, ◌∙◌, subst, arith}
 use Rattle.std.specs.List.{list_any}
@@ -11,7 +11,7 @@ use Rattle.rv64_instr.specs.declared.place.Place.TheVariants.{Register}
 use Rattle.rv64_instr.specs.DefsAndUses.{reads}
 use Rattle.rv64_instr.specs.Instruction.{Instruction}
 use Rattle.rv64_instr.specs.LocationEffects.{has_implicit_uses, defines_of}
-use Rattle.rv64_instr.specs.Row.{Row, Moves, row_of}
+use Rattle.rv64_instr.specs.Row.{Row, Moves, row_of, implicit_uses}
 use Rattle.mir_func.specs.declared.block.Block.{Block}
 use Rattle.mir_func.specs.declared.debug_substitution.OperandPair.{OperandPair}
 use Rattle.mir_func.specs.declared.item.Item.{Item}
@@ -22,15 +22,16 @@ use Rattle.mir_func.specs.declared.position.Origin.TheVariants.{Before}
 use Rattle.mir_func.specs.Function.{Function}
 use Rattle.mir_func.specs.Graph.{Program, Fetch, Here, EndOfBlock, Outside, fetch_in, from_block, program_of}
 use Rattle.mir_func.specs.Sound.{items_of, HasForm, AllItems}
-use Rattle.sem_mir.specs.Live.{Defines, KindDefines}
-use Rattle.pass_liveness.specs.Liveness.{LivePast}
-use Rattle.pass_trait.specs.Causes.{names, scratch_of}
-use Rattle.pass_trait.proofs.Thinning.{first_of_front}
-use Rattle.spill_rule.specs.Choice.{is_added, lacks_scratch}
-use Rattle.spill_rule.proofs.Chosen.{item_in}
-use Rattle.spill_simulation.specs.MaySpill.{uses_in}
-use Rattle.spill_simulation.proofs.Explicit.{explicit}
-use Rattle.spill_simulation.proofs.Places.{stands_at, holds_at, contains_at}
+use Rattle.scan_intervals.specs.sem_mir.Live.{Defines, KindDefines}
+use Rattle.scan_intervals.specs.pass_liveness.Liveness.{LivePast}
+use Rattle.scan_intervals.specs.pass_trait.Causes.{names, scratch_of}
+use Rattle.scan_intervals.proofs.pass_trait.Thinning.{first_of_front}
+use Rattle.spill_select.specs.spill_rule.Choice.{is_added, lacks_scratch}
+use Rattle.spill_select.proofs.spill_rule.Chosen.{item_in}
+use Rattle.spill_select.specs.spill_simulation.MaySpill.{uses_in}
+use Rattle.spill_select.proofs.spill_simulation.Explicit.{explicit}
+use Rattle.spill_select.proofs.spill_simulation.Near.{uses_implicit, reads_either}
+use Rattle.spill_select.proofs.spill_simulation.Places.{stands_at, holds_at, contains_at}
 use Rattle.scan_intervals.specs.declared.interval.LiveInterval.{LiveInterval}
 use Rattle.scan_intervals.specs.Liveness.{at_starts}
 use Rattle.scan_intervals.specs.Points.{CodePoint, points_of}
@@ -46,7 +47,7 @@ use Rattle.scan_allocation.specs.Laws.{AllocationIsColoring}
 use Rattle.scan_allocation.proofs.Walking.{Gets, given_gets, gets_clear, one_register, all_proper}
 use Rattle.scan_allocation.proofs.AllocationOrder.{order_real}
 use Rattle.scan_allocation.proofs.Explicit.{use_named}
-use Rattle.scan_allocation.proofs.Named.{set_is_named, implicit_small}
+use Rattle.scan_allocation.proofs.Named.{set_is_named, implicits_small, implicit_small}
 
 not_both : {b : Bool} → b ≡ false → b ≡ true → ⊥
 not_both e f = cc
@@ -284,41 +285,52 @@ module _ (reserve : List ℕ) (f : Function) (resolve : OperandPair → Option O
 
   -- added code reads no virtual register, where some register gets another
   added_plain : (p : Pos) (i : Item) (code : Instruction) (k : Option ℕ) (o : Pos) (r q : ℕ) → g.fetch p ≡ Here i → i.kind ≡ Code code k →
-      i.origin ≡ Before o → has_implicit_uses (row_of code) ≡ false → Contains (reads (row_of code)) r → given r ≡ Some q → ⊥
-  added_plain p i code k o r q at kind origin plain c e =
-      let v = stands_at false f.blocks resolve p i at in
-      let member = item_in f.blocks v.block i v.member (contains_at v.block.items p.item i v.at) in
-      let virtual = (is_real r q e).0 in
-      let form : HasForm (Code code k) = subst HasForm kind (form_at p i at) in
-      let used = (explicit code form).reads_used plain r c (λ z. omega (arith, z, virtual)) in
-      let named : names_virtual i.kind ≡ true = ap names_virtual kind ∙ use_virtual code.operands r used virtual in
-      let added : is_added i.origin ≡ true = ap is_added origin in
-      let some : adds_virtual f ≡ true =
-      any_by (λ (x : Item). is_added x.origin && names_virtual x.kind) (items_of f.blocks) i member
-      (and_from (is_added i.origin) (names_virtual i.kind) added named)
-      in
-      not_both (second_false (lacks_scratch f) (adds_virtual f) (is_crowded f assignments) (given_is r q e).0) some
+      i.origin ≡ Before o → Contains (reads (row_of code)) r → given r ≡ Some q → ⊥
+  added_plain p i code k o r q at kind origin c e =
+      elim (reads_either (row_of code) r c) as (λ _. ⊥) [
+        | inl u ↦ by_use ((explicit code form).explicit_used r u (λ z. omega (arith, z, virtual)))
+        | inr u ↦ (let small = implicit_small code form r u in omega (arith, small, virtual))
+      ] where
+        form : HasForm (Code code k)
+        form = subst HasForm kind (form_at p i at)
 
-  by_row : (p : Pos) (i : Item) (code : Instruction) (k : Option ℕ) (r q : ℕ) (z : Bool) → has_implicit_uses (row_of code) ≡ z → g.fetch p ≡ Here i →
-      i.kind ≡ Code code k → (has_implicit_uses (row_of code) ≡ true) ⊎ ((o : Pos) × (i.origin ≡ Before o)) → Contains (reads (row_of code)) r →
-      given r ≡ Some q → ⊥
-  by_row p i code k r q true implied at kind why c e =
-      let form : HasForm (Code code k) = subst HasForm kind (form_at p i at) in
-      let small = implicit_small code form implied r c in
-      let virtual = (is_real r q e).0 in
-      omega (arith, small, virtual)
-  by_row p i code k r q false plain at kind (inl implied) c e = not_both plain implied
-  by_row p i code k r q false plain at kind (inr (o, origin)) c e = added_plain p i code k o r q at kind origin plain c e
+        virtual : 32 ≤ r
+        virtual = (is_real r q e).0
 
-  is_kept : (p : Pos) (i : Item) (code : Instruction) (k : Option ℕ) → g.fetch p ≡ Here i → i.kind ≡ Code code k →
-      (has_implicit_uses (row_of code) ≡ true) ⊎ ((o : Pos) × (i.origin ≡ Before o)) → (r : ℕ) → Contains (reads (row_of code)) r → given r ≡ None
-  is_kept p i code k at kind why r c = by_given_one (given r) refl where
-    by_given_one : (x : Option ℕ) → given r ≡ x → x ≡ None
-    by_given_one None e = refl
-    by_given_one (Some q) e = absurd (by_row p i code k r q (has_implicit_uses (row_of code)) refl at kind why c e)
+        by_use : Contains (uses_in code.operands) r → ⊥
+        by_use used =
+            let v = stands_at false f.blocks resolve p i at in
+            let member = item_in f.blocks v.block i v.member (contains_at v.block.items p.item i v.at) in
+            let named : names_virtual i.kind ≡ true = ap names_virtual kind ∙ use_virtual code.operands r used virtual in
+            let added : is_added i.origin ≡ true = ap is_added origin in
+            let some : adds_virtual f ≡ true =
+            any_by (λ (x : Item). is_added x.origin && names_virtual x.kind) (items_of f.blocks) i member
+            (and_from (is_added i.origin) (names_virtual i.kind) added named)
+            in
+            not_both (second_false (lacks_scratch f) (adds_virtual f) (is_crowded f assignments) (given_is r q e).0) some
+
+  unless_given : (r : ℕ) → ((q : ℕ) → given r ≡ Some q → ⊥) → given r ≡ None
+  unless_given r none = by_given (given r) refl where
+    by_given : (x : Option ℕ) → given r ≡ x → x ≡ None
+    by_given None e = refl
+    by_given (Some q) e = absurd (none q e)
+
+  is_implicit : (p : Pos) (i : Item) (code : Instruction) (k : Option ℕ) → g.fetch p ≡ Here i → i.kind ≡ Code code k →
+      has_implicit_uses (row_of code) ≡ true → (r : ℕ) → Contains (implicit_uses code.operands) r → given r ≡ None
+  is_implicit p i code k at kind implied r c = unless_given r (λ q e. by_some q e) where
+    by_some : (q : ℕ) → given r ≡ Some q → ⊥
+    by_some q e =
+        let form : HasForm (Code code k) = subst HasForm kind (form_at p i at) in
+        let small = implicits_small code form implied r (uses_implicit code.operands r c) in
+        let virtual = (is_real r q e).0 in
+        omega (arith, small, virtual)
+
+  is_added_plain : (p : Pos) (i : Item) (code : Instruction) (k : Option ℕ) (o : Pos) → g.fetch p ≡ Here i → i.kind ≡ Code code k →
+      i.origin ≡ Before o → (r : ℕ) → Contains (reads (row_of code)) r → given r ≡ None
+  is_added_plain p i code k o at kind origin r c = unless_given r (λ q e. added_plain p i code k o r q at kind origin c e)
 
   pub is_coloring : IsColoring g given
-  is_coloring = record { real = is_real; apart = is_apart; copies = is_copied; kept = is_kept }
+  is_coloring = record { real = is_real; apart = is_apart; copies = is_copied; implicit = is_implicit; added = is_added_plain }
 
 pub allocation_is_coloring : AllocationIsColoring
 allocation_is_coloring reserve f given resolve forms a = is_coloring reserve f resolve forms given a

@@ -4,8 +4,8 @@ use Rattle.std.specs.List.{list_any}
 use Rattle.std.proofs.lemmas.Bool.{or_left, or_right}
 use Rattle.rv64_instr.specs.declared.operand.Operand.{Operand}
 use Rattle.rv64_instr.specs.declared.operand.Operand.TheVariants.{Def, Use}
-use Rattle.pass_trait.specs.Causes.{is_of_register}
-use Rattle.spill_simulation.specs.MaySpill.{uses_in, defs_in}
+use Rattle.scan_intervals.specs.pass_trait.Causes.{is_of_register}
+use Rattle.spill_select.specs.spill_simulation.MaySpill.{uses_in, defs_in}
 
 pub use_named : (counts : Bool) (os : List Operand) (r : ℕ) → Contains (uses_in os) r → list_any (is_of_register counts r) os ≡ true
 use_named counts [] r (k, lt, e) = absurd (omega (arith, lt))

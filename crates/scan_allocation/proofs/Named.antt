@@ -1,4 +1,4 @@
--- Code that sets a register names it, or the register is physical; and what calls and returns read is physical.
+-- Code that sets a register names it, or the register is physical; and what calls and returns read by implicit operands is physical.
 use Rattle.std.proofs.Common.{◌≡◌, ◌⊎◌, inl, inr, ℕ, zero, suc, ◌<◌, List, [], ◌∷◌, Contains, None, Bool, true, false, ◌&&◌, ◌||◌}
 use Rattle.std.proofs.Common.{nat_lt, nat_le, refl, subst, arith}
 use Rattle.std.specs.List.{list_all}
@@ -14,19 +14,19 @@ use Rattle.rv64_instr.specs.declared.operand.Operand.{Operand}
 use Rattle.rv64_instr.specs.declared.operand.Operand.TheVariants.{Def, Use, ImplicitDef, ImplicitUse, Imm, Slot, Object, Block, Symbol, Mask}
 use Rattle.rv64_instr.specs.declared.place.Place.TheVariants.{Register}
 use Rattle.rv64_instr.specs.Arithmetic.{word}
-use Rattle.rv64_instr.specs.DefsAndUses.{caller_saved, reads, sets}
+use Rattle.rv64_instr.specs.DefsAndUses.{caller_saved, sets}
 use Rattle.rv64_instr.specs.Form.{has_form, is_clobbered, is_argument, is_last_argument, is_call_register, is_result, is_held_tail_use, is_held_tail_register}
 use Rattle.rv64_instr.specs.Instruction.{Instruction}
 use Rattle.rv64_instr.specs.LocationEffects.{has_implicit_uses, defines_of}
-use Rattle.rv64_instr.specs.Row.{row_by, row_of, immediate_row, object_row, move_row}
+use Rattle.rv64_instr.specs.Row.{Row, Calls, Returns, row_by, row_of, immediate_row, object_row, move_row}
 use Rattle.rv64_instr.proofs.Tails.{IsTailRegister, held_tail_use, tail_callee, callee_low, held_callee, last_arguments, held_tail_uses}
 use Rattle.mir_func.specs.declared.item.ItemKind.TheVariants.{Code}
-use Rattle.sem_mir.proofs.Implicit.{implicit}
-use Rattle.sem_mir.proofs.Parts.{defines_row}
-use Rattle.pass_trait.specs.Causes.{names}
-use Rattle.spill_simulation.proofs.Explicit.{explicit}
-use Rattle.spill_simulation.specs.MaySpill.{implicits_in}
-use Rattle.spill_simulation.proofs.Near.{implicit_sets, reads_implicit}
+use Rattle.scan_intervals.proofs.sem_mir.Implicit.{implicit}
+use Rattle.scan_intervals.proofs.sem_mir.Parts.{defines_row}
+use Rattle.scan_intervals.specs.pass_trait.Causes.{names}
+use Rattle.spill_select.proofs.spill_simulation.Explicit.{explicit}
+use Rattle.spill_select.specs.spill_simulation.MaySpill.{implicits_in}
+use Rattle.spill_select.proofs.spill_simulation.Near.{implicit_sets, implicit_reads, reads_implicit}
 use Rattle.scan_allocation.proofs.AllocationOrder.{all_by}
 use Rattle.scan_allocation.proofs.Explicit.{def_named}
 
@@ -141,9 +141,7 @@ by_op Copy (Def rd ∷ Use a ∷ rest) e i q c = absurd (not_both (move_plain rd
 by_op PseudoBr (Block n ∷ rest) e i q c = cc
 by_op PseudoCall (Symbol name ∷ Mask ∷ rest) e i q c = all_small is_argument arguments_small rest e q c
 by_op PseudoRet os e i q c = all_small is_result results_small os e q c
-by_op PseudoCallIndirect (ImplicitUse r ∷ Mask ∷ rest) e i q c =
-    let w = and_parts (is_call_register r) (list_all is_argument rest) e in
-    with_callee r rest (held_callee r w.0).1 (λ p k. all_small is_argument arguments_small rest w.1 p k) q c
+by_op PseudoCallIndirect (Use r ∷ Mask ∷ rest) e i q c = all_small is_argument arguments_small rest e q c
 by_op PseudoTail (Symbol name ∷ rest) e i q c = all_small is_held_tail_use tails_small rest (held_tail_uses rest e) q c
 by_op PseudoTailIndirect (ImplicitUse r ∷ rest) e i q c =
     let w = and_parts (is_held_tail_register r) (list_all is_held_tail_use rest) e in
@@ -159,8 +157,12 @@ pub implicits_small : (code : Instruction) → IsTrue (has_form code.op code.ope
     Contains (implicits_in code.operands) q → q < 32
 implicits_small code form i q c = by_op code.op code.operands form i q c
 
--- so is what it reads
-pub implicit_small : (code : Instruction) → IsTrue (has_form code.op code.operands) → has_implicit_uses (row_of code) ≡ true → (q : ℕ) →
-    Contains (reads (row_of code)) q → q < 32
-implicit_small code form i q c =
-    implicits_small code form i q (reads_implicit (row_of code) code.operands q (implicit code) i c)
+implied : (r : Row) (q : ℕ) → Contains (implicit_reads r) q → has_implicit_uses r ≡ true
+implied (Calls call) q k = refl
+implied (Returns ending) q k = refl
+implied _ q (k, lt, e) = absurd (omega (arith, lt))
+
+-- so is what it reads by them
+pub implicit_small : (code : Instruction) → IsTrue (has_form code.op code.operands) → (q : ℕ) → Contains (implicit_reads (row_of code)) q → q < 32
+implicit_small code form q c =
+    implicits_small code form (implied (row_of code) q c) q (reads_implicit (row_of code) code.operands q (implicit code) c)

@@ -5,14 +5,14 @@ use Rattle.std.specs.List.{list_any}
 use Rattle.rv64_instr.specs.declared.operand.Operand.{Operand}
 use Rattle.rv64_instr.specs.declared.operand.Operand.TheVariants.{Def, Use, ImplicitDef, ImplicitUse, Imm, Slot as OfSlot, Object as OfObject, Part}
 use Rattle.rv64_instr.specs.declared.operand.Operand.TheVariants.{Block as OfBlock}
-use Rattle.rv64_instr.specs.declared.operand.Operand.TheVariants.{Symbol, Mask, Outgoing}
+use Rattle.rv64_instr.specs.declared.operand.Operand.TheVariants.{Symbol, Mask, Outgoing, GlobalRegisters}
 use Rattle.mir_func.specs.declared.item.ItemKind.{ItemKind}
 use Rattle.mir_func.specs.declared.item.ItemKind.TheVariants.{Code, Mark, Phi}
 use Rattle.mir_func.specs.Function.{Function}
 use Rattle.mir_func.specs.Limits.{MAX_SLOTS}
 use Rattle.mir_func.specs.Sound.{items_of}
-use Rattle.pass_trait.specs.Causes.{scratch_of}
-use Rattle.spill_rule.specs.Choice.{is_added, lacks_scratch}
+use Rattle.scan_intervals.specs.pass_trait.Causes.{scratch_of}
+use Rattle.spill_select.specs.spill_rule.Choice.{is_added, lacks_scratch}
 use Rattle.scan_intervals.specs.declared.interval.LiveInterval.{LiveInterval}
 use Rattle.scan_intervals.specs.Liveness.{Decides, at_starts}
 use Rattle.scan_intervals.specs.Points.{CodePoint, points_of}
@@ -31,6 +31,7 @@ is_virtual (OfSlot n) = false
 is_virtual (OfObject n) = false
 is_virtual (Part half y) = false
 is_virtual (Outgoing n) = false
+is_virtual GlobalRegisters = false
 is_virtual (OfBlock n) = false
 is_virtual (Symbol name) = false
 is_virtual Mask = false

@@ -2,8 +2,8 @@
 
 ghost use Rattle.std.specs.Prelude.{◌≡◌, ◌&&◌};
 ghost use Rattle.std.specs.List.{list_any};
-ghost use Rattle.spill_rule.specs.Choice.{is_added};
-ghost use Rattle.spill_rule.specs.steps.Any.{any_item};
+ghost use Rattle.spill_select.specs.spill_rule.Choice.{is_added};
+ghost use Rattle.spill_select.specs.spill_rule.steps.Any.{any_item};
 ghost use Rattle.scan_allocation.specs.Allocation.{is_virtual, names_virtual, adds_virtual};
 
 use mir_func::block::Block;
@@ -69,6 +69,7 @@ fn is_virtual(operand: &Operand) -> bool
         | Operand::Object(_)
         | Operand::Part(_, _)
         | Operand::Outgoing(_)
+        | Operand::GlobalRegisters
         | Operand::Block(_)
         | Operand::Symbol(_)
         | Operand::Mask => false,

@@ -4,6 +4,10 @@
 //! slot. Nothing is taken back from an earlier one.
 #![tactic(auto)]
 
+pub use scan_intervals as scan_intervals_crate;
+pub use spill_select as spill_select_crate;
+pub use spill_select::spill_rule_crate as spill_rule_crate;
+
 pub mod added;
 pub mod assignment;
 pub mod laws;

@@ -25,10 +25,10 @@ use Rattle.pass_trait.specs.Causes.{AsksFor, IsLostWith}
 use Rattle.pass_trait.specs.Change.{change}
 use Rattle.pass_trait.specs.Rule.{StandsAt}
 use Rattle.pass_liveness.proofs.Blocks.{block_found, from_block-at}
-use Rattle.dce_stale.proofs.Exact.{drop_at, get_drop}
+use Rattle.scan_stale.proofs.dce_stale.Exact.{drop_at, get_drop}
 use Rattle.scan_debug.specs.Laws.{AreSilencedLosses}
-use Rattle.scan_rule.specs.Rewrite.{allotted}
-use Rattle.scan_rule.specs.Step.{IsSilenced, DecidesSilence}
+use Rattle.scan_debug.specs.scan_rule.Rewrite.{allotted}
+use Rattle.scan_debug.specs.scan_rule.Step.{IsSilenced, DecidesSilence}
 use Rattle.scan_allot.specs.Losses.{wrong_place, lost_value, lost_place, lost_kind, lost_items, lost_blocks}
 
 none_in : {A : Type 0} (x : A) → Contains [] x → ⊥

@@ -21,10 +21,10 @@ use Rattle.sem_mir.specs.Live.{Defines, KindDefines}
 use Rattle.sem_mir.proofs.Places.{in_any, any_in}
 use Rattle.pass_trait.specs.Causes.{is_named, Comes, begins, goes_on}
 use Rattle.pass_trait.specs.Change.{change}
-use Rattle.scan_allocation.specs.Coloring.{now}
-use Rattle.scan_rule.specs.Rewrite.{allotted}
-use Rattle.scan_rule.specs.Silence.{SetsAnother, Overwritten, Unset, IsSilent}
-use Rattle.scan_rule.specs.Step.{DecidesSilence}
+use Rattle.scan_debug.specs.scan_allocation.Coloring.{now}
+use Rattle.scan_debug.specs.scan_rule.Rewrite.{allotted}
+use Rattle.scan_debug.specs.scan_rule.Silence.{SetsAnother, Overwritten, Unset, IsSilent}
+use Rattle.scan_debug.specs.scan_rule.Step.{DecidesSilence}
 use Rattle.scan_stale.specs.Flow.{Places, takes_place, sets_other, is_unset, takes_at, BeginsStale, IsStale}
 use Rattle.scan_stale.specs.Sets.{stale_of, StaleSets, starts_of, AreStaleSets}
 use Rattle.scan_allot.specs.Silent.{is_silent, silent_by}

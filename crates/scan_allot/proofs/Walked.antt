@@ -13,7 +13,7 @@ use Rattle.mir_func.specs.Successors.{pos_in}
 use Rattle.pass_trait.specs.declared.loss.Loss.{Loss}
 use Rattle.pass_liveness.specs.Sets.{has}
 use Rattle.pass_liveness.proofs.Blocks.{from_block-at}
-use Rattle.scan_rule.specs.Rewrite.{kind_now, item_now, items_now, block_now, blocks_now}
+use Rattle.scan_debug.specs.scan_rule.Rewrite.{kind_now, item_now, items_now, block_now, blocks_now}
 use Rattle.scan_stale.specs.Flow.{Places, stale_next, stale_at}
 use Rattle.scan_stale.specs.Sets.{start_in, stale_in, stale_of, StaleSets, starts_of}
 use Rattle.scan_stale.proofs.Steps.{step_at}

@@ -8,8 +8,8 @@ use Rattle.pass_trait.specs.declared.loss.Loss.{Loss}
 use Rattle.pass_trait.specs.Change.{change}
 use Rattle.pass_trait.specs.Order.{IsInOrder}
 use Rattle.scan_debug.specs.Laws.{AreSilencedLosses}
-use Rattle.scan_rule.specs.Rewrite.{blocks_now, allotted}
-use Rattle.scan_rule.specs.Step.{DecidesSilence}
+use Rattle.scan_debug.specs.scan_rule.Rewrite.{blocks_now, allotted}
+use Rattle.scan_debug.specs.scan_rule.Step.{DecidesSilence}
 
 -- these are the blocks where virtual registers are replaced so, and this is lost
 pub record AreAllotted (f : Function) (subs : List DebugSubstitution) (given : ℕ → Option ℕ) (blocks : List Block) (losses : List Loss) : Type 0 where

@@ -3,8 +3,8 @@
 ghost use Rattle.std.specs.Prelude.{◌≡◌, ◌≤◌, ◌<◌, ◌++◌, List, [], IfOk, OnOk, Some, length, slice_get};
 ghost use Rattle.mir_func.specs.declared.block.Block.{Block};
 ghost use Rattle.mir_func.specs.declared.debug_substitution.DebugSubstitution.{DebugSubstitution};
-ghost use Rattle.scan_choice.specs.Given.{given_by};
-ghost use Rattle.scan_rule.specs.Rewrite.{block_now, blocks_now};
+ghost use Rattle.scan_stale.specs.scan_choice.Given.{given_by};
+ghost use Rattle.scan_debug.specs.scan_rule.Rewrite.{block_now, blocks_now};
 ghost use Rattle.scan_stale.specs.Sets.{starts_of, AreStaleSets};
 ghost use Rattle.scan_stale.specs.Written.{AreReal};
 ghost use Rattle.scan_allot.specs.Allotted.{AreAllotted};

@@ -2,13 +2,13 @@
 
 ghost use Rattle.std.specs.Prelude.{◌≡◌, IfOk, map};
 ghost use Rattle.spill_code.specs.Rewrite.{renamed_operand, renamed_code};
-ghost use Rattle.scan_allocation.specs.Coloring.{now};
-ghost use Rattle.scan_choice.specs.Given.{given_by};
+ghost use Rattle.scan_debug.specs.scan_allocation.Coloring.{now};
+ghost use Rattle.scan_stale.specs.scan_choice.Given.{given_by};
 
 use rv64_instr::instr::Instr;
 use rv64_instr::operand::{Operand, Operands};
 use rv64_instr::reg::Reg;
-use scan_choice::given::now;
+use scan_stale::scan_choice_crate::given::now;
 use std::alloc::{AllocError, Global};
 
 /// The instruction, with the registers of its explicit operands replaced. The error is out of memory.
@@ -18,6 +18,7 @@ pub fn renamed_code(alloc: Global, given: &[Option<Reg>], i: &Instr) -> Result<I
     Ok(Instr {
         op: i.op,
         operands: renamed_operands(alloc, given, i.operands.as_slice())?,
+        volatile: i.volatile,
     })
 }
 
@@ -49,6 +50,7 @@ fn renamed_operand(given: &[Option<Reg>], operand: &Operand) -> Result<Operand, 
         | Operand::Object(_)
         | Operand::Part(_, _)
         | Operand::Outgoing(_)
+        | Operand::GlobalRegisters
         | Operand::Block(_)
         | Operand::Symbol(_)
         | Operand::Mask => operand.copy(),

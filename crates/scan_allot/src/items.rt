@@ -2,8 +2,8 @@
 
 ghost use Rattle.std.specs.Prelude.{◌≡◌, ◌≤◌, ◌++◌, IfOk, OnOk, length};
 ghost use Rattle.pass_liveness.specs.Sets.{has};
-ghost use Rattle.scan_choice.specs.Given.{given_by};
-ghost use Rattle.scan_rule.specs.Rewrite.{value_now, place_now, kind_now, items_now};
+ghost use Rattle.scan_stale.specs.scan_choice.Given.{given_by};
+ghost use Rattle.scan_debug.specs.scan_rule.Rewrite.{value_now, place_now, kind_now, items_now};
 ghost use Rattle.scan_stale.specs.Written.{AreReal};
 ghost use Rattle.scan_allot.specs.Losses.{lost_items};
 ghost use Rattle.scan_allot.specs.Silent.{is_silent, silent_along};
@@ -19,8 +19,8 @@ use pass_liveness::set::PlaceSet;
 use pass_trait::loss::Loss;
 use rv64_instr::place::Place;
 use rv64_instr::reg::Reg;
-use scan_choice::given::now;
 use scan_stale::places::GivenPlaces;
+use scan_stale::scan_choice_crate::given::now;
 use scan_stale::stale::StaleRegisters;
 use std::alloc::{AllocError, Global};
 

@@ -2,6 +2,9 @@
 //! DBG_PHI becomes undef where the place of its register may have another value, and is reported as lost.
 #![tactic(auto)]
 
+pub use pass_losses as pass_losses_crate;
+pub use scan_stale::scan_liveness_crate as scan_liveness_crate;
+
 pub mod blocks;
 pub mod code;
 pub mod items;
@@ -9,5 +12,5 @@ pub mod lost;
 pub mod named;
 pub mod silence;
 
-pub use scan_choice::choice as choice;
 pub use scan_debug::laws as laws;
+pub use scan_stale::scan_choice_crate::choice as choice;

@@ -6,7 +6,7 @@ ghost use Rattle.rv64_instr.specs.Row.{row_of};
 ghost use Rattle.rv64_instr.specs.LocationEffects.{has_implicit_uses};
 ghost use Rattle.pass_liveness.specs.Sets.{has_bit};
 ghost use Rattle.pass_trait.specs.Causes.{is_of_register, names, is_named};
-ghost use Rattle.spill_rule.specs.steps.Any.{any_item};
+ghost use Rattle.scan_debug.specs.spill_rule.steps.Any.{any_item};
 
 use mir_func::block::Block;
 use mir_func::func::Func;
@@ -111,6 +111,7 @@ fn insert_operand(counts: bool, operand: &Operand, named: &mut PlaceSet)
         | Operand::Object(_)
         | Operand::Part(_, _)
         | Operand::Outgoing(_)
+        | Operand::GlobalRegisters
         | Operand::Block(_)
         | Operand::Symbol(_)
         | Operand::Mask => {}

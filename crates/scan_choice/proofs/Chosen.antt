@@ -3,15 +3,15 @@ use Rattle.std.proofs.Common.{◌≡◌, ℕ, ◌<◌, ◌≤◌, List, [], ◌�
 use Rattle.std.specs.Prelude.{All, Contains}
 use Rattle.std.proofs.lemmas.List.Elements.{All-nil, All-cons, All-head, All-tail, All-weaker, All-contains_itself}
 use Rattle.mir_func.specs.Function.{Function}
-use Rattle.pass_trait.specs.Causes.{scratch_of}
-use Rattle.scan_intervals.specs.declared.interval.LiveInterval.{LiveInterval}
-use Rattle.scan_intervals.specs.Blocked.{AreBlocked}
-use Rattle.scan_intervals.specs.Intervals.{is_clear}
-use Rattle.scan_intervals.specs.Liveness.{at_starts}
-use Rattle.scan_intervals.specs.Points.{CodePoint, points_of}
-use Rattle.scan_allocation.specs.declared.assignment.RegisterAssignment.{RegisterAssignment}
-use Rattle.scan_allocation.specs.Allocation.{IsAllocation, stays, given_unless, assignments_of}
-use Rattle.scan_allocation.specs.Walk.{order_without, walk, assignment_of, free_after}
+use Rattle.scan_liveness.specs.pass_trait.Causes.{scratch_of}
+use Rattle.scan_liveness.specs.scan_intervals.declared.interval.LiveInterval.{LiveInterval}
+use Rattle.scan_liveness.specs.scan_intervals.Blocked.{AreBlocked}
+use Rattle.scan_liveness.specs.scan_intervals.Intervals.{is_clear}
+use Rattle.scan_liveness.specs.scan_intervals.Liveness.{at_starts}
+use Rattle.scan_liveness.specs.scan_intervals.Points.{CodePoint, points_of}
+use Rattle.scan_liveness.specs.scan_allocation.declared.assignment.RegisterAssignment.{RegisterAssignment}
+use Rattle.scan_liveness.specs.scan_allocation.Allocation.{IsAllocation, stays, given_unless, assignments_of}
+use Rattle.scan_liveness.specs.scan_allocation.Walk.{order_without, walk, assignment_of, free_after}
 use Rattle.scan_liveness.specs.Liveness.{IsLiveness}
 use Rattle.scan_choice.specs.Given.{given_by}
 

@@ -5,8 +5,8 @@ use Rattle.std.specs.Prelude.{All}
 use Rattle.std.proofs.lemmas.Bool.{cases_eq, cases_lt, eq-eqb, ne_eqb, le-leb, leb-true}
 use Rattle.std.proofs.lemmas.List.{get_or-set_other, get_or-set_same}
 use Rattle.std.proofs.lemmas.List.Elements.{All-head, All-tail}
-use Rattle.scan_allocation.specs.declared.assignment.RegisterAssignment.{RegisterAssignment}
-use Rattle.scan_allocation.specs.Walk.{given_to}
+use Rattle.scan_liveness.specs.scan_allocation.declared.assignment.RegisterAssignment.{RegisterAssignment}
+use Rattle.scan_liveness.specs.scan_allocation.Walk.{given_to}
 use Rattle.scan_choice.specs.Given.{given_by}
 
 -- in an empty table there is nothing

@@ -1,21 +1,21 @@
 //! Which physical register each virtual register of a function gets.
 
 ghost use Rattle.std.specs.Prelude.{◌≡◌, ◌+◌, ◌<◌, ◌≤◌, ◌^◌, All, IfOk, count_by, length};
-ghost use Rattle.pass_trait.specs.Sizes.{item_count};
-ghost use Rattle.scan_allocation.specs.Allocation.{IsAllocation, stays, is_crowded, is_left};
+ghost use Rattle.scan_liveness.specs.pass_trait.Sizes.{item_count};
+ghost use Rattle.scan_liveness.specs.scan_allocation.Allocation.{IsAllocation, stays, is_crowded, is_left};
 ghost use Rattle.scan_choice.specs.Given.{given_by};
 
 use crate::given::{GivenRegisters, table_of};
 use mir_func::func::Func;
 use mir_func::limits::MAX_SLOTS;
 use rv64_instr::reg::Reg;
-use scan_allocation::added::adds_virtual;
-use scan_allocation::assignment::RegisterAssignment;
-use scan_allocation::order::order_without;
-use scan_allocation::walk::walk;
 use scan_liveness::liveness::liveness_of;
-use spill_select::choice::lacks_scratch;
-use spill_select::scratch::scratch_of;
+use scan_liveness::scan_allocation_crate::added::adds_virtual;
+use scan_liveness::scan_allocation_crate::assignment::RegisterAssignment;
+use scan_liveness::scan_allocation_crate::order::order_without;
+use scan_liveness::scan_allocation_crate::walk::walk;
+use scan_liveness::spill_select_crate::choice::lacks_scratch;
+use scan_liveness::spill_select_crate::scratch::scratch_of;
 use std::alloc::{AllocError, Global};
 
 /// The physical register that each virtual register of a function gets, if it gets one. None is one of the reserve. The

@@ -1,13 +1,13 @@
 //! The physical registers that virtual registers get, as a table.
 
 ghost use Rattle.std.specs.Prelude.{◌≡◌, ◌<◌, ◌≤◌, ◌-◌, ℕ, [], None, All, IfOk, OnOk, length, slice_index_or, slice_set};
-ghost use Rattle.scan_allocation.specs.Allocation.{given_unless};
-ghost use Rattle.scan_allocation.specs.Coloring.{now};
-ghost use Rattle.scan_allocation.specs.Walk.{given_to};
+ghost use Rattle.scan_liveness.specs.scan_allocation.Allocation.{given_unless};
+ghost use Rattle.scan_liveness.specs.scan_allocation.Coloring.{now};
+ghost use Rattle.scan_liveness.specs.scan_allocation.Walk.{given_to};
 ghost use Rattle.scan_choice.specs.Given.{given_by};
 
 use rv64_instr::reg::Reg;
-use scan_allocation::assignment::RegisterAssignment;
+use scan_liveness::scan_allocation_crate::assignment::RegisterAssignment;
 use std::alloc::{AllocError, Global};
 
 /// The physical register that each virtual register gets, if it gets one: first that of the first virtual register, and so

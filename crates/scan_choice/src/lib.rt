@@ -2,5 +2,7 @@
 //! the function's liveness.
 #![tactic(auto)]
 
+pub use scan_liveness as scan_liveness_crate;
+
 pub mod choice;
 pub mod given;

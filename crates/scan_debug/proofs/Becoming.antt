@@ -17,7 +17,7 @@ use Rattle.mir_func.specs.Function.{Function}
 use Rattle.mir_func.specs.Graph.{Here, fetch_in, from_block, front}
 use Rattle.mir_func.specs.Positions.{position_of}
 use Rattle.mir_func.specs.Sound.{AreApart, ids_of}
-use Rattle.sem_mir.proofs.Reading.{found}
+use Rattle.pass_trait.proofs.sem_mir.Reading.{found}
 use Rattle.pass_trait.specs.declared.loss.Loss.{Loss}
 use Rattle.pass_trait.specs.declared.loss.Lost.TheVariants as lost
 use Rattle.pass_trait.specs.declared.loss.Reason.TheVariants.{WrongPlace}
@@ -26,11 +26,11 @@ use Rattle.pass_trait.specs.Change.{Change, change}
 use Rattle.pass_trait.specs.Debug.{RegisterStays, IsKillAt, Becomes, mark_stays, phi_stays, code_stays, code_unnumbered, mark_silenced, phi_silenced}
 use Rattle.pass_trait.specs.Debug.{mark_renamed, phi_renamed, BecomeAll, over, next, BlocksBecome, none, stays as block_stays}
 use Rattle.pass_trait.specs.Rule.{Rule, StandsAt, item, mark_lost, number_lost}
-use Rattle.scan_allocation.specs.Allocation.{IsAllocation}
-use Rattle.scan_allocation.specs.Coloring.{now_by, now}
-use Rattle.scan_rule.specs.Rewrite.{value_now, place_now, kind_now, items_now, blocks_now, allotted}
-use Rattle.scan_rule.specs.Step.{IsSilenced, DecidesSilence, allot_debug}
-use Rattle.scan_rule.proofs.Same.{one_allocation}
+use Rattle.scan_simulation.specs.scan_allocation.Allocation.{IsAllocation}
+use Rattle.scan_simulation.specs.scan_allocation.Coloring.{now_by, now}
+use Rattle.scan_simulation.specs.scan_rule.Rewrite.{value_now, place_now, kind_now, items_now, blocks_now, allotted}
+use Rattle.scan_simulation.specs.scan_rule.Step.{IsSilenced, DecidesSilence, allot_debug}
+use Rattle.scan_simulation.proofs.scan_rule.Same.{one_allocation}
 
 not_both : {b : Bool} → b ≡ false → b ≡ true → ⊥
 not_both e f = cc

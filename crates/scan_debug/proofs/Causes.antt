@@ -6,16 +6,16 @@ use Rattle.mir_func.specs.declared.item.ItemKind.{ItemKind}
 use Rattle.mir_func.specs.declared.item.ItemKind.TheVariants.{Code, Mark, Phi}
 use Rattle.mir_func.specs.declared.position.Pos.{Pos}
 use Rattle.mir_func.specs.Graph.{Program, Fetch, Here, EndOfBlock, Outside, Edge}
-use Rattle.sem_mir.specs.Live.{Defines, KindDefines}
+use Rattle.pass_trait.specs.sem_mir.Live.{Defines, KindDefines}
 use Rattle.pass_trait.specs.declared.loss.Loss.{Loss}
 use Rattle.pass_trait.specs.Causes.{defines, Comes, begins, goes_on, old_program, old_start, IsDefinition, IsAfter, IsOtherDefinition, IsWrong, unnamed, unset}
 use Rattle.pass_trait.specs.Causes.{overwritten, HasCause, place_wrong}
 use Rattle.pass_trait.specs.Change.{Change}
 use Rattle.pass_trait.specs.Rule.{Rule, IsNow}
-use Rattle.scan_allocation.specs.Allocation.{IsAllocation}
-use Rattle.scan_allocation.specs.Coloring.{now_by, now}
-use Rattle.scan_rule.specs.Silence.{SetsAnother, IsSilent}
-use Rattle.scan_rule.specs.Step.{IsSilenced, allot_debug}
+use Rattle.scan_simulation.specs.scan_allocation.Allocation.{IsAllocation}
+use Rattle.scan_simulation.specs.scan_allocation.Coloring.{now_by, now}
+use Rattle.scan_simulation.specs.scan_rule.Silence.{SetsAnother, IsSilent}
+use Rattle.scan_simulation.specs.scan_rule.Step.{IsSilenced, allot_debug}
 
 -- a path by other words
 comes_map : (f : Program) (B B' S S' : Pos → Type 0) → ((q : Pos) → B q → B' q) → ((p : Pos) → S' p → S p) → {at : Pos} → Comes f B S at → Comes f B' S' at

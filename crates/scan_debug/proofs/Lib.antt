@@ -4,3 +4,5 @@ pub mod Sizes
 pub mod Causes
 pub mod Becoming
 pub mod Step
+pub use Rattle.scan_simulation.proofs as scan_simulation
+pub use Rattle.scan_simulation.proofs.spill_rule as spill_rule

@@ -14,8 +14,8 @@ use Rattle.mir_func.specs.declared.position.Pos.{Pos}
 use Rattle.mir_func.specs.Exits.{exit_of, IsAlways, Leaves}
 use Rattle.mir_func.specs.Graph.{Program}
 use Rattle.mir_func.specs.Sound.{items_of, ids_of, number_of, code_number, NumbersOnce, IsJumpAtMost, MayFollow, EndsWell, Closes, LastCloses}
-use Rattle.scan_allocation.specs.Coloring.{IsColoring}
-use Rattle.scan_rule.specs.Rewrite.{kind_now, item_now, items_now, block_now, blocks_now}
+use Rattle.scan_simulation.specs.scan_allocation.Coloring.{IsColoring}
+use Rattle.scan_simulation.specs.scan_rule.Rewrite.{kind_now, item_now, items_now, block_now, blocks_now}
 use Rattle.scan_simulation.proofs.Rows.{exit_now}
 
 module _ (given : ℕ → Option ℕ) (silent : Pos → ℕ → Bool) where

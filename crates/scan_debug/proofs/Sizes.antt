@@ -28,15 +28,15 @@ use Rattle.mir_func.specs.Limits.{MAX_BLOCKS, MAX_SLOTS}
 use Rattle.mir_func.specs.Resolve.{resolve}
 use Rattle.mir_func.specs.Sound.{items_of}
 use Rattle.mir_func.specs.SoundFrame.{IsPhysical as OperandIsPhysical, ValueIsPhysical, PlaceIsPhysical, HasPhysical}
-use Rattle.sem_mir.specs.Align.{is_code}
+use Rattle.pass_trait.specs.sem_mir.Align.{is_code}
 use Rattle.pass_trait.specs.Sizes.{greatest, numbers_of, greatest_number, item_count, code_count, call_count, most}
-use Rattle.spill_code.specs.Rewrite.{renamed_operand}
-use Rattle.spill_simulation.proofs.Items.{call_is}
-use Rattle.spill_simulation.proofs.Rows.{row_renamed}
-use Rattle.scan_allocation.specs.Coloring.{now, IsColoring}
-use Rattle.scan_allocation.proofs.Coloring.{is_coloring}
+use Rattle.scan_simulation.specs.spill_code.Rewrite.{renamed_operand}
+use Rattle.scan_simulation.proofs.spill_simulation.Items.{call_is}
+use Rattle.scan_simulation.proofs.spill_simulation.Rows.{row_renamed}
+use Rattle.scan_simulation.specs.scan_allocation.Coloring.{now, IsColoring}
+use Rattle.scan_simulation.proofs.scan_allocation.Coloring.{is_coloring}
 use Rattle.scan_debug.specs.Laws.{AllottedKeepsSizes}
-use Rattle.scan_rule.specs.Rewrite.{value_now, place_now, kind_now, item_now, items_now, block_now, blocks_now, allotted}
+use Rattle.scan_simulation.specs.scan_rule.Rewrite.{value_now, place_now, kind_now, item_now, items_now, block_now, blocks_now, allotted}
 use Rattle.scan_simulation.proofs.Following.{each_now}
 use Rattle.scan_simulation.proofs.Renaming.{now_plain, physical, keeps_zero}
 use Rattle.scan_debug.proofs.Lists.{map_now}

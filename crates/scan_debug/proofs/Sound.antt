@@ -23,13 +23,13 @@ use Rattle.mir_func.specs.Resolve.{resolve}
 use Rattle.mir_func.specs.Sound.{AreApart, ids_of, ExitIn, TargetsIn, PlaceIn, SlotsIn, SlotIn, PassedIn, ObjectsIn, ObjectIn, IsNotPointer}
 use Rattle.mir_func.specs.Sound.{LeavesPointer, OriginIn, EndsWell, PassesFirst, KindPassesFirst}
 use Rattle.mir_func.specs.Sound.{IsSound}
-use Rattle.spill_code.specs.Rewrite.{renamed_operand}
-use Rattle.spill_proof.proofs.Sound.{slot_renamed, first_renamed, object_renamed}
-use Rattle.spill_simulation.proofs.Rows.{row_renamed}
-use Rattle.scan_allocation.specs.Coloring.{now, IsColoring}
-use Rattle.scan_allocation.proofs.Coloring.{is_coloring}
+use Rattle.scan_simulation.specs.spill_code.Rewrite.{renamed_operand}
+use Rattle.scan_simulation.proofs.spill_proof.Sound.{slot_renamed, first_renamed, object_renamed}
+use Rattle.scan_simulation.proofs.spill_simulation.Rows.{row_renamed}
+use Rattle.scan_simulation.specs.scan_allocation.Coloring.{now, IsColoring}
+use Rattle.scan_simulation.proofs.scan_allocation.Coloring.{is_coloring}
 use Rattle.scan_debug.specs.Laws.{AllottedIsSound}
-use Rattle.scan_rule.specs.Rewrite.{place_now, kind_now, block_now, blocks_now, allotted}
+use Rattle.scan_simulation.specs.scan_rule.Rewrite.{place_now, kind_now, block_now, blocks_now, allotted}
 use Rattle.scan_simulation.proofs.Following.{each_now}
 use Rattle.scan_simulation.proofs.Renaming.{now_pointer, keeps_zero}
 use Rattle.scan_simulation.proofs.Rows.{exit_now}

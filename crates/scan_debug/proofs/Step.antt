@@ -11,12 +11,12 @@ use Rattle.pass_trait.specs.Change.{Change, change}
 use Rattle.pass_trait.specs.Debug.{IsFor, IsLoss, KeepsItems}
 use Rattle.pass_trait.specs.Order.{IsInOrder}
 use Rattle.pass_trait.specs.Rule.{Rule}
-use Rattle.scan_allocation.proofs.Coloring.{is_coloring}
+use Rattle.scan_simulation.proofs.scan_allocation.Coloring.{is_coloring}
 use Rattle.scan_debug.specs.Laws.{AreSilencedLosses, MayBeAllotted, AllottedKeepsStep}
-use Rattle.scan_rule.specs.Rewrite.{allotted}
-use Rattle.scan_rule.specs.Step.{IsSilenced, allot_debug}
-use Rattle.scan_rule.proofs.Bare.{allotted_is_stripped}
-use Rattle.scan_rule.proofs.Same.{one_allocation}
+use Rattle.scan_simulation.specs.scan_rule.Rewrite.{allotted}
+use Rattle.scan_simulation.specs.scan_rule.Step.{IsSilenced, allot_debug}
+use Rattle.scan_simulation.proofs.scan_rule.Bare.{allotted_is_stripped}
+use Rattle.scan_simulation.proofs.scan_rule.Same.{one_allocation}
 use Rattle.scan_debug.proofs.Becoming.{all_become}
 use Rattle.scan_debug.proofs.Causes.{has_cause}
 use Rattle.scan_debug.proofs.Sound.{allotted_is_sound}

@@ -9,9 +9,9 @@ use Rattle.pass_trait.specs.Change.{Change, change}
 use Rattle.pass_trait.specs.Order.{IsInOrder}
 use Rattle.pass_trait.specs.Sizes.{KeepsSizes}
 use Rattle.pass_trait.specs.Steps.{KeepsStep}
-use Rattle.scan_allocation.specs.Allocation.{IsAllocation}
-use Rattle.scan_rule.specs.Rewrite.{allotted}
-use Rattle.scan_rule.specs.Step.{IsSilenced, DecidesSilence, allot_step}
+use Rattle.scan_simulation.specs.scan_allocation.Allocation.{IsAllocation}
+use Rattle.scan_simulation.specs.scan_rule.Rewrite.{allotted}
+use Rattle.scan_simulation.specs.scan_rule.Step.{IsSilenced, DecidesSilence, allot_step}
 
 -- the list's members are exactly what is lost of debug values and DBG_PHIs that become undef
 abbrev pub AreSilencedLosses : Change → (given : ℕ → Option ℕ) → List Loss → Type 0

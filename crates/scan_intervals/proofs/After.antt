@@ -13,7 +13,7 @@ use Rattle.mir_func.specs.Exits.{exit_of}
 use Rattle.mir_func.specs.Function.{Function}
 use Rattle.mir_func.specs.Graph.{Fetch, Here, FetchEdge, Program, block_start, front, fetch_in, from_block, program_of}
 use Rattle.mir_func.proofs.Ways.{IsDown, IsOut}
-use Rattle.sem_mir.specs.Live.{Live}
+use Rattle.pass_liveness.specs.sem_mir.Live.{Live}
 use Rattle.pass_liveness.specs.Walk.{live_across, live_from}
 use Rattle.pass_liveness.specs.Liveness.{LivePast}
 use Rattle.pass_liveness.proofs.Edges.{Stays, kind_edge}

@@ -4,7 +4,7 @@ use Rattle.rv64_instr.specs.declared.place.Place.{Place}
 use Rattle.rv64_instr.specs.declared.place.Place.TheVariants.{Register, Slot, Const}
 use Rattle.mir_func.specs.Function.{Function}
 use Rattle.mir_func.specs.Graph.{program_of, block_start}
-use Rattle.sem_mir.specs.Live.{Live}
+use Rattle.pass_liveness.specs.sem_mir.Live.{Live}
 
 -- the test says of each block number and each register whether the register is live at the block's start
 abbrev pub Decides : Function → (live : ℕ → ℕ → Bool) → Type 0

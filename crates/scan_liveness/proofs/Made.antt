@@ -143,8 +143,8 @@ module _ (f : Function) (forms : AllItems (λ i. HasForm i.kind) f.blocks) (slot
     untouched r le p c = by_test (touches r p) refl where
       most : touches r p ≡ true → r ≤ greatest_register f.blocks
       most = All-contains (λ (q : CodePoint). touches r q ≡ true → r ≤ greatest_register f.blocks) points p
-          (of_most (on_registers (has_at_start slots ids starts)) (greatest_register f.blocks) r (λ z. omega (arith, le, z))
-          (λ n h. live_most f.blocks (λ q. None) (greatest_register f.blocks) (up_to f.blocks forms) r (λ z. omega (arith, le, z)) (block_start n)
+          (of_most (on_registers (has_at_start slots ids starts)) (greatest_register f.blocks) r (omega (arith, le))
+          (λ n h. live_most f.blocks (λ q. None) (greatest_register f.blocks) (up_to f.blocks forms) r (omega (arith, le)) (block_start n)
           ((decides n r).0 h)) f.blocks (up_to f.blocks forms)) c
 
       by_test : (z : Bool) → touches r p ≡ z → touches r p ≡ false

@@ -1,21 +1,22 @@
 -- What is live or touched is named, so its number is at most the greatest one.
 use Rattle.std.proofs.Common.{◌≡◌, ◌⊎◌, inl, inr, ◌↔◌, ℕ, zero, suc, ◌<◌, ◌≤◌, List, [], ◌∷◌, drop, Contains, Option, Some, None, Bool, true, false, cond}
-use Rattle.std.proofs.Common.{◌&&◌, ◌||◌, not, nat_eq, max, refl, sym, ap, ◌∙◌, subst, arith}
+use Rattle.std.proofs.Common.{◌++◌, ◌&&◌, ◌||◌, not, nat_eq, max, refl, sym, ap, ◌∙◌, subst, arith}
 use Rattle.std.specs.List.{list_any}
 use Rattle.std.specs.Prelude.{All, IsTrue}
 use Rattle.std.proofs.Math.Nat.{le-max_left, le-max_right, le_trans}
 use Rattle.std.proofs.lemmas.Bool.{eqb-true, eq-eqb, and_parts, or_left, or_right}
 use Rattle.std.proofs.lemmas.List.Elements.{All-nil, All-cons, All-append, All-head, All-tail}
 use Rattle.rv64_instr.specs.declared.operand.Operand.{Operand}
-use Rattle.rv64_instr.specs.declared.operand.Operand.TheVariants.{Def, Use, ImplicitDef, ImplicitUse}
+use Rattle.rv64_instr.specs.declared.operand.Operand.TheVariants.{Def, Use, ImplicitDef, ImplicitUse, GlobalRegisters}
 use Rattle.rv64_instr.specs.declared.place.Place.{Place}
 use Rattle.rv64_instr.specs.declared.place.Place.TheVariants.{Register}
-use Rattle.rv64_instr.specs.DefsAndUses.{reads, input_reads, base_reads}
+use Rattle.rv64_instr.specs.DefsAndUses.{reads, input_reads, base_reads, callee_reads}
 use Rattle.rv64_instr.specs.Form.{has_form}
 use Rattle.rv64_instr.specs.Instruction.{Instruction}
-use Rattle.rv64_instr.specs.LocationEffects.{first_use, second_use, is_register, is_implicit_use, has_implicit_uses, uses_of, defines_of}
+use Rattle.rv64_instr.proofs.Tails.{global_low}
+use Rattle.rv64_instr.specs.LocationEffects.{callee_place, first_use, second_use, is_register, is_implicit_use, has_implicit_uses, uses_of, defines_of}
 use Rattle.rv64_instr.specs.Row.{Row, Fixes, Moves, Sets, Addresses, Loads, Stores, LoadsSlot, StoresSlot, Branches, Jumps, Calls, Returns, Unfit, row_of}
-use Rattle.rv64_instr.specs.Row.{Content, Number, PartOf, PointedBy, ObjectAt, BesidePart}
+use Rattle.rv64_instr.specs.Row.{Callee, Named, Held, Content, Number, PartOf, PointedBy, ObjectAt, BesidePart}
 use Rattle.mir_func.specs.declared.block.Block.{Block}
 use Rattle.mir_func.specs.declared.debug_substitution.OperandPair.{OperandPair}
 use Rattle.mir_func.specs.declared.item.Item.{Item}
@@ -35,9 +36,9 @@ use Rattle.scan_allocation.proofs.Named.{set_is_named}
 use Rattle.scan_intervals.specs.Liveness.{at_starts}
 use Rattle.scan_intervals.specs.Points.{CodePoint, next_of, with_point, is_live_before, is_live_after, points_in, points_of}
 use Rattle.scan_intervals.specs.Intervals.{touches}
-use Rattle.spill_simulation.specs.MaySpill.{uses_in, implicits_in}
-use Rattle.spill_simulation.proofs.Explicit.{explicit}
-use Rattle.spill_simulation.proofs.Near.{reads_implicit}
+use Rattle.scan_allocation.specs.spill_simulation.MaySpill.{uses_in, implicits_in}
+use Rattle.scan_allocation.proofs.spill_simulation.Explicit.{explicit}
+use Rattle.scan_allocation.proofs.spill_simulation.Near.{reads_implicit, reads_either}
 use Rattle.scan_liveness.specs.Registers.{register_of, greatest_operand, greatest_of, greatest_in, greatest_register}
 
 or_cases : (x y : Bool) → (x || y) ≡ true → (x ≡ true) ⊎ (y ≡ true)
@@ -96,15 +97,16 @@ implicit_among (ImplicitUse s ∷ os) r (zero, lt, e) = here_among (ImplicitUse 
 implicit_among (ImplicitUse s ∷ os) r (suc k, lt, e) = later_among (ImplicitUse s) os r (implicit_among os r (k, omega (arith, lt), e))
 implicit_among (o ∷ os) r k = later_among o os r (implicit_among os r k)
 
-of_implicit : (o : Operand) (r : ℕ) → is_implicit_use r o ≡ true → register_of o ≡ r
-of_implicit (ImplicitUse s) r e = eqb-true s r e
-of_implicit _ r e = cc
+of_implicit : (o : Operand) (r : ℕ) → 32 ≤ r → is_implicit_use r o ≡ true → register_of o ≡ r
+of_implicit (ImplicitUse s) r low e = eqb-true s r e
+of_implicit GlobalRegisters r low e = let small = global_low r e in absurd (omega (arith, low, small))
+of_implicit _ r low e = cc
 
-any_implicit_among : (os : List Operand) (r : ℕ) → list_any (is_implicit_use r) os ≡ true → among r os ≡ true
-any_implicit_among [] r e = cc
-any_implicit_among (o ∷ os) r e = elim (or_cases (is_implicit_use r o) (list_any (is_implicit_use r) os) e) [
-  | inl h ↦ here_among o os r (of_implicit o r h)
-  | inr h ↦ later_among o os r (any_implicit_among os r h)
+any_implicit_among : (os : List Operand) (r : ℕ) → 32 ≤ r → list_any (is_implicit_use r) os ≡ true → among r os ≡ true
+any_implicit_among [] r low e = cc
+any_implicit_among (o ∷ os) r low e = elim (or_cases (is_implicit_use r o) (list_any (is_implicit_use r) os) e) [
+  | inl h ↦ here_among o os r (of_implicit o r low h)
+  | inr h ↦ later_among o os r (any_implicit_among os r low h)
 ]
 
 -- ---- code
@@ -124,6 +126,10 @@ first_read (Loads rd op (BesidePart a y) o) r e = is_head a r [] e
 first_read (Stores op rs base o) r e = is_head rs r (base_reads base) e
 first_read (StoresSlot rs n) r e = is_head rs r [] e
 first_read (Branches op a b target) r e = is_head a r (b ∷ []) e
+first_read (Calls call) r e = by_callee call.callee e where
+  by_callee : (callee : Callee) → is_register r (callee_place callee) ≡ true → Contains (callee_reads callee ++ call.args) r
+  by_callee (Named name) e = cc
+  by_callee (Held a) e = is_head a r call.args e
 first_read _ r e = cc
 
 second_read : (row : Row) (r : ℕ) → is_register r (second_use row) ≡ true → Contains (reads row) r
@@ -137,22 +143,24 @@ second_read (Branches op a b target) r e = is_second a b r [] e
 second_read _ r e = cc
 
 read_among : (i : Instruction) (r : ℕ) → IsTrue (has_form i.op i.operands) → (r ≡ 0 → ⊥) → Contains (reads (row_of i)) r → among r i.operands ≡ true
-read_among i r form ne c = by_class (has_implicit_uses (row_of i)) refl where
-  by_class : (z : Bool) → has_implicit_uses (row_of i) ≡ z → among r i.operands ≡ true
-  by_class true e = implicit_among i.operands r (reads_implicit (row_of i) i.operands r (implicit i) e c)
-  by_class false e = used_among i.operands r ((explicit i form).reads_used e r c ne)
+read_among i r form ne c = elim (reads_either (row_of i) r c) [
+  | inl u ↦ used_among i.operands r ((explicit i form).explicit_used r u ne)
+  | inr u ↦ implicit_among i.operands r (reads_implicit (row_of i) i.operands r (implicit i) u)
+]
 
--- a register that code reads
-pub code_among : (i : Instruction) (r : ℕ) → IsTrue (has_form i.op i.operands) → (r ≡ 0 → ⊥) → uses_of i (Register r) ≡ true → among r i.operands ≡ true
-code_among i r form ne e =
+-- a virtual register that code reads
+pub code_among : (i : Instruction) (r : ℕ) → IsTrue (has_form i.op i.operands) → 32 ≤ r → uses_of i (Register r) ≡ true → among r i.operands ≡ true
+code_among i r form low e =
     elim (three_cases (is_register r (first_use (row_of i))) (is_register r (second_use (row_of i)))
     (has_implicit_uses (row_of i) && list_any (is_implicit_use r) i.operands) e) as (λ _. among r i.operands ≡ true) [
-      | inl h ↦ read_among i r form ne (first_read (row_of i) r h)
+      | inl h ↦ read_among i r form real (first_read (row_of i) r h)
       | inr other ↦ elim other as (λ _. among r i.operands ≡ true) [
-        | inl g ↦ read_among i r form ne (second_read (row_of i) r g)
-        | inr g ↦ any_implicit_among i.operands r (and_parts (has_implicit_uses (row_of i)) (list_any (is_implicit_use r) i.operands) g).1
+        | inl g ↦ read_among i r form real (second_read (row_of i) r g)
+        | inr g ↦ any_implicit_among i.operands r low (and_parts (has_implicit_uses (row_of i)) (list_any (is_implicit_use r) i.operands) g).1
       ]
-    ]
+    ] where
+      real : r ≡ 0 → ⊥
+      real z = omega (arith, low, z)
 
 -- a virtual register that code sets
 pub set_among : (i : Instruction) (r : ℕ) → IsTrue (has_form i.op i.operands) → 32 ≤ r → defines_of (row_of i) (Register r) ≡ true →
@@ -162,9 +170,9 @@ set_among i r form low e = elim (set_is_named i r form e) as (λ _. among r i.op
   | inr small ↦ absurd (omega (arith, small, low))
 ]
 
--- a register that code reads or names has a number up to the greatest one
-code_most : (i : Instruction) (r : ℕ) → IsTrue (has_form i.op i.operands) → (r ≡ 0 → ⊥) → uses_of i (Register r) ≡ true → r ≤ greatest_operand i.operands
-code_most i r form ne e = among_most i.operands r (code_among i r form ne e)
+-- a virtual register that code reads or names has a number up to the greatest one
+code_most : (i : Instruction) (r : ℕ) → IsTrue (has_form i.op i.operands) → 32 ≤ r → uses_of i (Register r) ≡ true → r ≤ greatest_operand i.operands
+code_most i r form low e = among_most i.operands r (code_among i r form low e)
 
 named_most : (counts : Bool) (os : List Operand) (r : ℕ) → list_any (is_of_register counts r) os ≡ true → r ≤ greatest_operand os
 named_most counts os r e = among_most os r (named_among counts os r e)
@@ -213,9 +221,9 @@ up_to bs forms = blocks_up_to bs (greatest_register bs) forms (omega arith)
 
 -- ---- what is live
 
-module _ (bs : List Block) (resolve : OperandPair → Option OperandPair) (most : ℕ) (each : AllItems (IsUpTo most) bs) (r : ℕ) (ne : r ≡ 0 → ⊥) where
+module _ (bs : List Block) (resolve : OperandPair → Option OperandPair) (most : ℕ) (each : AllItems (IsUpTo most) bs) (r : ℕ) (low : 32 ≤ r) where
   kind_most : (k : ItemKind) → HasForm k → greatest_of k ≤ most → KindUses k (Register r) → r ≤ most
-  kind_most (Code i n) form le u = le_trans (code_most i r form ne u) le
+  kind_most (Code i n) form le u = le_trans (code_most i r form low u) le
   kind_most (Mark v m) form le u = absurd u
   kind_most (Phi p n) form le u = absurd u
 
@@ -224,14 +232,14 @@ module _ (bs : List Block) (resolve : OperandPair → Option OperandPair) (most 
   uses_most p (EndOfBlock k n) e u = absurd u
   uses_most p Outside e u = absurd u
 
-  -- a register that is live somewhere
+  -- a virtual register that is live somewhere
   pub live_most : (p : Pos) → Live (program_of false bs resolve) (Register r) p → r ≤ most
   live_most p (used u) = uses_most p (fetch_in (from_block bs p.block) p.item) refl u
   live_most p (later unset edge alive) = live_most _ alive
 
 -- ---- what is touched
 
-module _ (live : ℕ → ℕ → Bool) (most r : ℕ) (ne : r ≡ 0 → ⊥) (none : (n : ℕ) → live n r ≡ true → r ≤ most) where
+module _ (live : ℕ → ℕ → Bool) (most r : ℕ) (low : 32 ≤ r) (none : (n : ℕ) → live n r ≡ true → r ≤ most) where
   past_most : (next : Option ℕ) → live_past (at_starts live) next (Register r) ≡ true → r ≤ most
   past_most None e = cc
   past_most (Some n) e = none n e
@@ -244,7 +252,7 @@ module _ (live : ℕ → ℕ → Bool) (most r : ℕ) (ne : r ≡ 0 → ⊥) (no
 
   before_most : (k : ItemKind) (b : Bool) → HasForm k → greatest_of k ≤ most → (b ≡ true → r ≤ most) → live_before k b (Register r) ≡ true → r ≤ most
   before_most (Code i n) b form le h e = elim (or_cases (uses_of i (Register r)) (b && not (defines_of (row_of i) (Register r))) e) [
-    | inl u ↦ le_trans (code_most i r form ne u) le
+    | inl u ↦ le_trans (code_most i r form low u) le
     | inr t ↦ h (and_parts b (not (defines_of (row_of i) (Register r))) t).0
   ]
   before_most (Mark v m) b form le h e = h e

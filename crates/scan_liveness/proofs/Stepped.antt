@@ -149,7 +149,7 @@ module _ (s b a : ℕ → Bool) (i : Instruction) (at : ℕ) where
       unused = by_test (uses_of i (Register r)) refl where
         by_test : (z : Bool) → uses_of i (Register r) ≡ z → z ≡ false
         by_test false e = refl
-        by_test true e = let bad : among r i.operands ≡ true = code_among i r form (λ z. omega (arith, low, z)) e in cc
+        by_test true e = let bad : among r i.operands ≡ true = code_among i r form low e in cc
 
       kept : defines_of (row_of i) (Register r) ≡ false
       kept = by_test (defines_of (row_of i) (Register r)) refl where

@@ -20,7 +20,7 @@ use rv64_instr::instr::Instr;
 use rv64_instr::operand::Operand;
 use rv64_instr::place::Place;
 use rv64_instr::reg::Reg;
-use spill_rule::named::code_names;
+use scan_allocation::spill_rule_crate::named::code_names;
 
 /// From where to where a register is touched, as indices of points from the end of the text.
 #[derive(Clone, Copy, Debug, PartialEq, Eq)]

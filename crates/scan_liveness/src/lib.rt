@@ -2,6 +2,9 @@
 //! visited from the end of the text upwards.
 #![tactic(auto)]
 
+pub use scan_allocation as scan_allocation_crate;
+pub use scan_allocation::spill_select_crate as spill_select_crate;
+
 pub mod extents;
 pub mod intervals;
 pub mod liveness;

@@ -16,8 +16,8 @@ use rv64_instr::decoded::Decoded;
 use rv64_instr::instr::Instr;
 use rv64_instr::place::Place;
 use rv64_instr::reg::Reg;
-use spill_rule::named::code_names;
-use spill_select::scratch::register;
+use scan_allocation::spill_rule_crate::named::code_names;
+use scan_allocation::spill_select_crate::scratch::register;
 
 /// The mask of code after which these places are live: bit R is set if the code blocks xR.
 pub(crate) fn mask_of(numbers: &SlotAndBlockNumbers, after: &PlaceSet, i: &Instr) -> u32

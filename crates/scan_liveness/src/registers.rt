@@ -65,6 +65,7 @@ pub(crate) fn register_of(operand: &Operand) -> u32
         | Operand::Object(_)
         | Operand::Part(_, _)
         | Operand::Outgoing(_)
+        | Operand::GlobalRegisters
         | Operand::Block(_)
         | Operand::Symbol(_)
         | Operand::Mask => 0,

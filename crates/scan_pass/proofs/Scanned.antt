@@ -16,25 +16,21 @@ use Rattle.pass_trait.specs.Simulation.{PreservesSimulation}
 use Rattle.pass_trait.specs.Sizes.{greatest, greatest_number, item_count, code_count, call_count, KeepsSizes}
 use Rattle.pass_trait.specs.Steps.{KeepsSteps}
 use Rattle.spill_code.proofs.Forms.{form_same}
-use Rattle.spill_proof.proofs.Following.{both}
-use Rattle.scan_allocation.specs.Coloring.{now}
-use Rattle.scan_allocation.proofs.Coloring.{is_coloring}
+use Rattle.scan_slots.proofs.spill_proof.Following.{both}
+use Rattle.scan_slots.specs.scan_allocation.Coloring.{now}
+use Rattle.scan_slots.proofs.scan_allocation.Coloring.{is_coloring}
 use Rattle.scan_debug.specs.Laws.{MayBeAllotted}
 use Rattle.scan_debug.proofs.Sizes.{allotted_keeps_sizes}
 use Rattle.scan_debug.proofs.Sound.{allotted_is_sound}
 use Rattle.scan_debug.proofs.Step.{allotted_keeps_step}
-use Rattle.scan_pass.specs.Scanned.{scan_steps, IsScanned, ScannedFollows, ScannedKeepsSteps, ScannedKeepsSizes, ScanIsOne, ScanSeesCodeAlone}
-use Rattle.scan_rule.specs.Rewrite.{kind_now, allotted}
-use Rattle.scan_rule.proofs.Originless.{allotment_sees_code_alone}
-use Rattle.scan_rule.proofs.Same.{allotment_is_one}
-use Rattle.scan_simulation.specs.Follows.{SilencesWrong}
-use Rattle.scan_simulation.proofs.Following.{allotted_follows, each_now}
+use Rattle.scan_pass.specs.Scanned.{scan_steps, IsScanned, ScannedFollows, ScannedKeepsSteps, ScannedKeepsSizes}
+use Rattle.scan_slots.specs.scan_rule.Rewrite.{kind_now, allotted}
+use Rattle.scan_debug.specs.scan_simulation.Follows.{SilencesWrong}
+use Rattle.scan_debug.proofs.scan_simulation.Following.{allotted_follows, each_now}
 use Rattle.scan_slots.specs.Choice.{settled_whole}
 use Rattle.scan_slots.specs.Laws.{MayBeSettled}
 use Rattle.scan_slots.proofs.Following.{settled_follows}
 use Rattle.scan_slots.proofs.Kept.{settled_keeps_step}
-use Rattle.scan_slots.proofs.One.{settling_is_one}
-use Rattle.scan_slots.proofs.Originless.{settling_sees_code_alone}
 use Rattle.scan_slots.proofs.Sizes.{settled_keeps_sizes}
 
 -- code has its form with other registers
@@ -137,9 +133,3 @@ scanned_keeps_steps reserve f subs new losses sound forms s =
 pub scanned_keeps_sizes : ScannedKeepsSizes
 scanned_keeps_sizes reserve f subs new losses sound forms s =
     subst (λ (g : Function). KeepsSizes 4 1 (change f subs g subs)) (sym s.made) (sizes_last reserve f subs new losses sound forms s)
-
-pub scan_is_one : ScanIsOne
-scan_is_one reserve = (allotment_is_one reserve, (settling_is_one, tt))
-
-pub scan_sees_code_alone : ScanSeesCodeAlone
-scan_sees_code_alone reserve = (allotment_sees_code_alone reserve, (settling_sees_code_alone, tt))

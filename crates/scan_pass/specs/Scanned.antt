@@ -11,12 +11,12 @@ use Rattle.pass_trait.specs.Order.{IsInOrder}
 use Rattle.pass_trait.specs.Simulation.{PreservesSimulation}
 use Rattle.pass_trait.specs.Sizes.{greatest_number, KeepsSizes}
 use Rattle.pass_trait.specs.Steps.{PassStep, EachCode, KeepsSteps}
-use Rattle.spill_proof.specs.Kept.{AreTaken}
-use Rattle.scan_allocation.specs.Allocation.{IsAllocation}
+use Rattle.scan_slots.specs.spill_proof.Kept.{AreTaken}
+use Rattle.scan_slots.specs.scan_allocation.Allocation.{IsAllocation}
 use Rattle.scan_debug.specs.Laws.{AreSilencedLosses}
-use Rattle.scan_intervals.specs.declared.interval.LiveInterval.{LiveInterval}
-use Rattle.scan_rule.specs.Rewrite.{allotted}
-use Rattle.scan_rule.specs.Step.{DecidesSilence, allot_step}
+use Rattle.scan_slots.specs.scan_intervals.declared.interval.LiveInterval.{LiveInterval}
+use Rattle.scan_slots.specs.scan_rule.Rewrite.{allotted}
+use Rattle.scan_slots.specs.scan_rule.Step.{DecidesSilence, allot_step}
 use Rattle.scan_slots.specs.Choice.{homes_left, settling_of, settled_whole}
 use Rattle.scan_slots.specs.Rule.{AreLeft}
 use Rattle.scan_slots.specs.Step.{settle_step}

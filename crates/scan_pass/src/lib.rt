@@ -3,4 +3,8 @@
 //! names a virtual register, and where there would be too many slots.
 #![tactic(auto)]
 
+pub use scan_slots::{
+    scan_allocation_crate as scan_allocation_crate, scan_intervals_crate as scan_intervals_crate,
+};
+
 pub mod laws;

@@ -14,15 +14,15 @@ use Rattle.mir_func.specs.declared.position.Pos.{Pos}
 use Rattle.mir_func.specs.Exits.{exit_of}
 use Rattle.mir_func.specs.Function.{Function}
 use Rattle.mir_func.specs.Strip.{bare, stripped_items, stripped_blocks, stripped}
-use Rattle.pass_liveness.specs.Walk.{live_before, live_across, live_from}
-use Rattle.pass_liveness.proofs.Places.{and_false}
-use Rattle.pass_liveness.proofs.Stripped.{live_stripped}
-use Rattle.pass_trait.specs.Rule.{item}
-use Rattle.spill_rule.specs.Choice.{is_added}
+use Rattle.scan_allocation.specs.pass_liveness.Walk.{live_before, live_across, live_from}
+use Rattle.scan_allocation.proofs.pass_liveness.Places.{and_false}
+use Rattle.scan_allocation.proofs.pass_liveness.Stripped.{live_stripped}
+use Rattle.scan_allocation.specs.pass_trait.Rule.{item}
+use Rattle.scan_allocation.specs.spill_rule.Choice.{is_added}
 use Rattle.spill_proof.proofs.Bare.{IsDebug, any_blocks, scratch_bare}
-use Rattle.scan_intervals.specs.Liveness.{Decides, at_starts}
-use Rattle.scan_intervals.specs.Points.{CodePoint, next_of, points_in, points_of}
-use Rattle.scan_intervals.specs.Intervals.{AreIntervals, is_clear}
+use Rattle.scan_allocation.specs.scan_intervals.Liveness.{Decides, at_starts}
+use Rattle.scan_allocation.specs.scan_intervals.Points.{CodePoint, next_of, points_in, points_of}
+use Rattle.scan_allocation.specs.scan_intervals.Intervals.{AreIntervals, is_clear}
 use Rattle.scan_allocation.specs.declared.assignment.RegisterAssignment.{RegisterAssignment}
 use Rattle.scan_allocation.specs.Walk.{order_without, walk}
 use Rattle.scan_allocation.specs.Allocation.{names_virtual, adds_virtual, is_crowded, stays, assignments_of, given_unless, IsAllocation}

@@ -1,8 +1,8 @@
 -- The intervals of points are one list.
 use Rattle.std.proofs.Common.{◌≡◌, ◌⊎◌, inl, inr, zero, suc, List, [], ◌∷◌, AllPairs, Contains, refl, sym, ◌∙◌, subst, arith}
-use Rattle.scan_intervals.specs.declared.interval.LiveInterval.{LiveInterval}
-use Rattle.scan_intervals.specs.Points.{CodePoint}
-use Rattle.scan_intervals.specs.Intervals.{IsBefore, AreIntervals}
+use Rattle.scan_allocation.specs.scan_intervals.declared.interval.LiveInterval.{LiveInterval}
+use Rattle.scan_allocation.specs.scan_intervals.Points.{CodePoint}
+use Rattle.scan_allocation.specs.scan_intervals.Intervals.{IsBefore, AreIntervals}
 
 never_both : (i j : LiveInterval) → IsBefore i j → IsBefore j i → ⊥
 never_both i j (inl a) (inl b) = omega (arith, a, b)

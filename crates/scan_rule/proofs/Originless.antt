@@ -9,13 +9,13 @@ use Rattle.mir_func.specs.declared.item.Item.{Item}
 use Rattle.mir_func.specs.declared.location.Loc.TheVariants.{Absent}
 use Rattle.mir_func.specs.Exits.{exit_of}
 use Rattle.mir_func.specs.Function.{Function}
-use Rattle.pass_liveness.specs.Walk.{live_before, live_across, live_from}
-use Rattle.pass_trait.specs.Code.{originless_origin, originless_item, originless_block, originless}
-use Rattle.spill_rule.specs.Choice.{is_added}
-use Rattle.spill_rule.specs.Laws.{any_originless, added_originless, live_to, live_from as live_back, scratch_same}
-use Rattle.scan_intervals.specs.Liveness.{Decides, at_starts}
-use Rattle.scan_intervals.specs.Points.{CodePoint, next_of, with_point, points_in, points_of}
-use Rattle.scan_intervals.specs.Intervals.{AreIntervals, is_clear}
+use Rattle.scan_allocation.specs.pass_liveness.Walk.{live_before, live_across, live_from}
+use Rattle.scan_allocation.specs.pass_trait.Code.{originless_origin, originless_item, originless_block, originless}
+use Rattle.scan_allocation.specs.spill_rule.Choice.{is_added}
+use Rattle.scan_allocation.specs.spill_rule.Laws.{any_originless, added_originless, live_to, live_from as live_back, scratch_same}
+use Rattle.scan_allocation.specs.scan_intervals.Liveness.{Decides, at_starts}
+use Rattle.scan_allocation.specs.scan_intervals.Points.{CodePoint, next_of, with_point, points_in, points_of}
+use Rattle.scan_allocation.specs.scan_intervals.Intervals.{AreIntervals, is_clear}
 use Rattle.scan_allocation.specs.declared.assignment.RegisterAssignment.{RegisterAssignment}
 use Rattle.scan_allocation.specs.Walk.{order_without, walk}
 use Rattle.scan_allocation.specs.Allocation.{names_virtual, adds_virtual, is_crowded, stays, assignments_of, given_unless, IsAllocation}

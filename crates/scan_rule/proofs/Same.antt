@@ -3,12 +3,12 @@ use Rattle.std.proofs.Common.{◌≡◌, ℕ, List, Option, None, Bool, false, s
 use Rattle.rv64_instr.specs.declared.place.Place.TheVariants.{Register}
 use Rattle.mir_func.specs.Function.{Function}
 use Rattle.mir_func.specs.Graph.{program_of, block_start}
-use Rattle.sem_mir.specs.Live.{Live}
-use Rattle.spill_rule.specs.Laws.{agreeing}
-use Rattle.scan_intervals.specs.declared.interval.LiveInterval.{LiveInterval}
-use Rattle.scan_intervals.specs.Liveness.{Decides, at_starts}
-use Rattle.scan_intervals.specs.Points.{points_of}
-use Rattle.scan_intervals.specs.Intervals.{AreIntervals}
+use Rattle.scan_allocation.specs.sem_mir.Live.{Live}
+use Rattle.scan_allocation.specs.spill_rule.Laws.{agreeing}
+use Rattle.scan_allocation.specs.scan_intervals.declared.interval.LiveInterval.{LiveInterval}
+use Rattle.scan_allocation.specs.scan_intervals.Liveness.{Decides, at_starts}
+use Rattle.scan_allocation.specs.scan_intervals.Points.{points_of}
+use Rattle.scan_allocation.specs.scan_intervals.Intervals.{AreIntervals}
 use Rattle.scan_allocation.specs.Allocation.{stays, assignments_of, given_unless, IsAllocation}
 use Rattle.scan_rule.specs.Laws.{AllotmentIsOne}
 use Rattle.scan_rule.specs.Rewrite.{allotted}

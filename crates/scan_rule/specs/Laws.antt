@@ -3,7 +3,7 @@ use Rattle.std.specs.Prelude.{ℕ, List, Option, Bool}
 use Rattle.mir_func.specs.declared.position.Pos.{Pos}
 use Rattle.mir_func.specs.Function.{Function}
 use Rattle.mir_func.specs.Strip.{stripped}
-use Rattle.pass_trait.specs.Code.{HasOneResult, SeesCodeAlone}
+use Rattle.scan_allocation.specs.pass_trait.Code.{HasOneResult, SeesCodeAlone}
 use Rattle.scan_allocation.specs.Allocation.{IsAllocation}
 use Rattle.scan_rule.specs.Rewrite.{allotted}
 use Rattle.scan_rule.specs.Rule.{IsAllotted}

@@ -10,7 +10,7 @@ use Rattle.mir_func.specs.declared.position.Pos.{Pos}
 use Rattle.mir_func.specs.declared.variable.MarkValue.{MarkValue}
 use Rattle.mir_func.specs.declared.variable.MarkValue.TheVariants.{Nothing, Constant, At, Pair}
 use Rattle.mir_func.specs.Function.{Function}
-use Rattle.spill_code.specs.Rewrite.{renamed_code}
+use Rattle.scan_allocation.specs.spill_code.Rewrite.{renamed_code}
 use Rattle.scan_allocation.specs.Coloring.{now}
 
 -- the value of a debug value: that of a register names the new one, or is undef

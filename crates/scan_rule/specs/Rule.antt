@@ -1,7 +1,7 @@
 -- The code rule of the step.
 use Rattle.std.specs.Prelude.{◌≡◌, ℕ, List, Option, Bool, false}
 use Rattle.mir_func.specs.declared.position.Pos.{Pos}
-use Rattle.pass_trait.specs.Code.{CodeRule}
+use Rattle.scan_allocation.specs.pass_trait.Code.{CodeRule}
 use Rattle.scan_allocation.specs.Allocation.{IsAllocation}
 use Rattle.scan_rule.specs.Rewrite.{allotted}
 

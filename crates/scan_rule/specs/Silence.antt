@@ -4,9 +4,9 @@ use Rattle.rv64_instr.specs.declared.place.Place.TheVariants.{Register}
 use Rattle.mir_func.specs.declared.position.Pos.{Pos}
 use Rattle.mir_func.specs.Function.{Function}
 use Rattle.mir_func.specs.Graph.{Program, Edge, block_start}
-use Rattle.sem_mir.specs.InitialState.{first_of}
-use Rattle.sem_mir.specs.Live.{Defines}
-use Rattle.pass_trait.specs.Causes.{is_named, Comes}
+use Rattle.scan_allocation.specs.sem_mir.InitialState.{first_of}
+use Rattle.scan_allocation.specs.sem_mir.Live.{Defines}
+use Rattle.scan_allocation.specs.pass_trait.Causes.{is_named, Comes}
 use Rattle.scan_allocation.specs.Coloring.{now}
 
 module _ (g : Program) (given : ℕ → Option ℕ) where

@@ -3,13 +3,13 @@ use Rattle.std.specs.Prelude.{◌≡◌, ◌↔◌, ℕ, List, [], Option, Some,
 use Rattle.rv64_instr.specs.declared.place.Place.TheVariants.{Register}
 use Rattle.mir_func.specs.declared.item.Item.{Item}
 use Rattle.mir_func.specs.declared.position.Pos.{Pos}
-use Rattle.pass_trait.specs.declared.loss.Loss.{Loss}
-use Rattle.pass_trait.specs.declared.loss.Lost.{Lost}
-use Rattle.pass_trait.specs.declared.loss.Reason.TheVariants.{WrongPlace}
-use Rattle.pass_trait.specs.Causes.{AsksFor, IsLostWith, old_program}
-use Rattle.pass_trait.specs.Change.{Change}
-use Rattle.pass_trait.specs.Rule.{Rule, StandsAt}
-use Rattle.pass_trait.specs.Steps.{PassStep}
+use Rattle.scan_allocation.specs.pass_trait.declared.loss.Loss.{Loss}
+use Rattle.scan_allocation.specs.pass_trait.declared.loss.Lost.{Lost}
+use Rattle.scan_allocation.specs.pass_trait.declared.loss.Reason.TheVariants.{WrongPlace}
+use Rattle.scan_allocation.specs.pass_trait.Causes.{AsksFor, IsLostWith, old_program}
+use Rattle.scan_allocation.specs.pass_trait.Change.{Change}
+use Rattle.scan_allocation.specs.pass_trait.Rule.{Rule, StandsAt}
+use Rattle.scan_allocation.specs.pass_trait.Steps.{PassStep}
 use Rattle.scan_allocation.specs.Allocation.{IsAllocation}
 use Rattle.scan_rule.specs.Rule.{IsAllotted}
 use Rattle.scan_rule.specs.Silence.{IsSilent}

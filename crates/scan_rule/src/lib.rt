@@ -3,4 +3,7 @@
 //! undef where the new one may hold another value.
 #![tactic(auto)]
 
+pub use scan_allocation as scan_allocation_crate;
+pub use scan_allocation::scan_intervals_crate as scan_intervals_crate;
+
 pub mod laws;

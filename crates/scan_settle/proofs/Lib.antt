@@ -1,1 +1,2 @@
 pub mod Made
+pub use Rattle.spill_pass.proofs as spill_pass

@@ -10,12 +10,12 @@ use Rattle.pass_trait.specs.Sizes.{greatest_number}
 use Rattle.spill_code.specs.declared.spilling.SlotAssignment.{SlotAssignment}
 use Rattle.spill_code.specs.declared.spilling.Spilling.{Spilling}
 use Rattle.spill_code.specs.Room.{HaveRoom}
-use Rattle.spill_debug.specs.RewrittenDebugItems.{blocks_asked}
-use Rattle.spill_debug.specs.Lost.{AreScratchLosses}
-use Rattle.spill_proof.specs.Whole.{spilled_by, where_spilled}
-use Rattle.spill_proof.specs.Kept.{AreTaken}
+use Rattle.spill_pass.specs.spill_debug.RewrittenDebugItems.{blocks_asked}
+use Rattle.spill_pass.specs.spill_debug.Lost.{AreScratchLosses}
+use Rattle.scan_slots.specs.spill_proof.Whole.{spilled_by, where_spilled}
+use Rattle.scan_slots.specs.spill_proof.Kept.{AreTaken}
 use Rattle.spill_pass.proofs.Room.{silent_asked, have_room}
-use Rattle.scan_intervals.specs.declared.interval.LiveInterval.{LiveInterval}
+use Rattle.scan_slots.specs.scan_intervals.declared.interval.LiveInterval.{LiveInterval}
 use Rattle.scan_slots.specs.Choice.{homes_left, settling_of, settled_whole}
 use Rattle.scan_slots.specs.Rule.{AreLeft}
 use Rattle.scan_slots.proofs.Following.{settled_is_sound}

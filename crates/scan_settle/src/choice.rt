@@ -3,17 +3,17 @@
 ghost use Rattle.std.specs.Prelude.{◌≡◌, ◌+◌, ◌<◌, ◌^◌, map, nat_lt, length, IfOk};
 ghost use Rattle.mir_func.specs.Limits.{MAX_SLOTS};
 ghost use Rattle.pass_trait.specs.Sizes.{greatest};
-ghost use Rattle.spill_rule.specs.Choice.{next_slot, homes_from};
+ghost use Rattle.spill_pass.specs.spill_rule.Choice.{next_slot, homes_from};
 ghost use Rattle.scan_slots.specs.Choice.{stays, all_homes, homes_left, settling_of};
 
 use mir_func::func::Func;
 use mir_func::limits::MAX_SLOTS;
 use rv64_instr::reg::Registers;
-use scan_allocation::added::adds_virtual;
-use scan_intervals::interval::LiveInterval;
+use scan_slots::scan_allocation_crate::added::adds_virtual;
+use scan_slots::scan_intervals_crate::interval::LiveInterval;
 use spill_code::spilling::{SlotAssignments, Spilling};
-use spill_select::choice::{homes_from, lacks_scratch, next_slot};
-use spill_select::scratch::{first_scratch, scratch_of, second_scratch};
+use spill_pass::spill_select_crate::choice::{homes_from, lacks_scratch, next_slot};
+use spill_pass::spill_select_crate::scratch::{first_scratch, scratch_of, second_scratch};
 use std::alloc::{AllocError, Global};
 
 /// The scratch registers, and the slots of the registers of these intervals.

@@ -3,5 +3,7 @@
 //! of such a register refers to a DBG_PHI of its slot.
 #![tactic(auto)]
 
+pub use spill_pass::mir_type_facts_crate as mir_type_facts_crate;
+
 pub mod choice;
 pub mod settle;

@@ -6,7 +6,7 @@ ghost use Rattle.mir_func.specs.Sound.{AllItems, HasForm, IsSound};
 ghost use Rattle.pass_trait.specs.Sizes.{greatest, greatest_number, item_count};
 ghost use Rattle.spill_code.specs.Rewrite.{spilled_blocks};
 ghost use Rattle.spill_code.specs.Room.{HaveRoom};
-ghost use Rattle.spill_debug.specs.RewrittenDebugItems.{number_beyond, blocks_asked};
+ghost use Rattle.spill_pass.specs.spill_debug.RewrittenDebugItems.{number_beyond, blocks_asked};
 ghost use Rattle.scan_slots.specs.Rule.{AreLeft};
 ghost use Rattle.scan_settle.specs.Settled.{IsSettledWithLosses};
 
@@ -14,15 +14,15 @@ use crate::choice::settling_of;
 use mir_func::block::{Block, Blocks};
 use mir_func::func::Func;
 use mir_substitution::substitutions::Substitutions;
-use mir_type_facts::blocks::{know_forms, know_silent};
-use pass_salvage::fresh::fresh_number;
 use pass_trait::loss::Losses;
-use scan_intervals::interval::LiveInterval;
+use scan_slots::scan_intervals_crate::interval::LiveInterval;
 use spill_code::rewrite::spilled_blocks;
 use spill_code::spilling::{SlotAssignments, Spilling};
-use spill_debug::lost::scratch_losses;
-use spill_debug::marks::blocks_asked;
+use spill_pass::mir_type_facts_crate::blocks::{know_forms, know_silent};
+use spill_pass::pass_salvage_crate::fresh::fresh_number;
 use spill_pass::plan::slots_with;
+use spill_pass::spill_debug_crate::lost::scratch_losses;
+use spill_pass::spill_debug_crate::marks::blocks_asked;
 use std::alloc::{AllocError, Global};
 
 /// Moves the registers of these intervals into slots, and returns the losses. After an error the function is unchanged.

@@ -5,8 +5,8 @@ use Rattle.std.specs.List.{list_any}
 use Rattle.std.proofs.lemmas.Bool.{cases_eq}
 use Rattle.rv64_instr.specs.DefsAndUses.{caller_saved}
 use Rattle.rv64_instr.specs.Form.{is_clobbered}
-use Rattle.scan_allocation.proofs.Named.{clobbered_small}
-use Rattle.scan_allocation.proofs.AllocationOrder.{all_by}
+use Rattle.scan_rule.proofs.scan_allocation.Named.{clobbered_small}
+use Rattle.scan_rule.proofs.scan_allocation.AllocationOrder.{all_by}
 
 abbrev upto : ℕ → List ℕ
 upto zero = []

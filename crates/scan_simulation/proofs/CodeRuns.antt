@@ -9,7 +9,7 @@ use Rattle.rv64_instr.specs.DefsAndUses.{reads, sets}
 use Rattle.rv64_instr.specs.Form.{has_form}
 use Rattle.rv64_instr.specs.Instruction.{Instruction}
 use Rattle.rv64_instr.specs.LocationEffects.{has_implicit_uses, slot_set}
-use Rattle.rv64_instr.specs.Row.{Row, row_of}
+use Rattle.rv64_instr.specs.Row.{Row, Returns, row_of}
 use Rattle.mir_func.specs.declared.item.Item.{Item}
 use Rattle.mir_func.specs.declared.item.ItemKind.{ItemKind}
 use Rattle.mir_func.specs.declared.item.ItemKind.TheVariants.{Code}
@@ -22,18 +22,20 @@ use Rattle.sem_mir.specs.Live.{Defines, KindDefines}
 use Rattle.sem_mir.specs.State.{Core, content}
 use Rattle.sem_mir.specs.Step.{Outcome, Falls, Goes, Gives, Traps, Asks, Breaks, act}
 use Rattle.sem_mir.specs.Step.{does as runs, are_written}
-use Rattle.sem_mir.proofs.Effects.{RowDefines, act_alike}
+use Rattle.sem_mir.proofs.Effects.{RowDefines}
+use Rattle.sem_mir.proofs.Implicit.{implicit}
 use Rattle.sem_mir.proofs.Outcomes.{alike_weaker}
 use Rattle.sem_mir.proofs.Parts.{row_defines, defines_row}
-use Rattle.spill_code.specs.Rewrite.{renamed_code}
-use Rattle.spill_simulation.proofs.Acting.{SetsZero, Made, ReadsAlike, act_renamed}
-use Rattle.spill_simulation.proofs.Items.{AreSet, act_written}
-use Rattle.spill_simulation.proofs.Near.{alike_and, on_both, Untold, act_untold, Kept, act_kept, sets_renamed, slot_defined_row}
-use Rattle.spill_simulation.proofs.Near.{slots_renamed, row_uses_reads, same_implicit, implicit_sets}
-use Rattle.spill_simulation.proofs.Rows.{renamed_row}
-use Rattle.scan_allocation.specs.Coloring.{now, IsColoring}
-use Rattle.scan_allocation.proofs.Named.{saved_small}
-use Rattle.scan_allocation.proofs.AllocationOrder.{all_by}
+use Rattle.scan_rule.specs.spill_code.Rewrite.{renamed_code}
+use Rattle.scan_rule.proofs.spill_simulation.Acting.{SetsZero, Made, ReadsAlike, act_renamed}
+use Rattle.scan_rule.proofs.spill_simulation.Explicit.{explicit_reads}
+use Rattle.scan_rule.proofs.spill_simulation.Items.{AreSet, act_written}
+use Rattle.scan_rule.proofs.spill_simulation.Near.{alike_and, on_both, Untold, act_untold, Kept, act_kept, sets_renamed, slot_defined_row}
+use Rattle.scan_rule.proofs.spill_simulation.Near.{slots_renamed, implicit_sets, sets_implicit, act_implicit, implicit_used, explicit_read, implicit_read}
+use Rattle.scan_rule.proofs.spill_simulation.Rows.{renamed_row}
+use Rattle.scan_rule.specs.scan_allocation.Coloring.{now, IsColoring}
+use Rattle.scan_rule.proofs.scan_allocation.Named.{saved_small}
+use Rattle.scan_rule.proofs.scan_allocation.AllocationOrder.{all_by}
 use Rattle.scan_rule.specs.Silence.{Overwritten}
 use Rattle.scan_simulation.proofs.Near.{Near, read_clear}
 use Rattle.scan_simulation.proofs.Renaming.{now_plain, now_given, physical, sets_zero}
@@ -53,6 +55,16 @@ written_read c rs q e k = some_of (content c.regs q) (all_by (λ r. is_some (con
 act_stops : (r : Row) (c : Core) → are_written c (reads r) ≡ false → act r c ≡ Traps
 unfolding act
 act_stops r c e = ap (λ (b : Bool). cond b (runs r c) Traps) e
+
+-- what is no return
+abbrev pub GoesOn : Row → Type 0
+GoesOn (Returns ending) = ⊥
+GoesOn _ = Unit {0}
+
+-- a return reads by implicit operands alone
+goes_on_or_returns : (r : Row) → GoesOn r ⊎ ((has_implicit_uses r ≡ true) × (explicit_reads r ≡ []))
+goes_on_or_returns (Returns ending) = inr (refl, refl)
+goes_on_or_returns _ = inl tt
 
 -- whether an item was added
 abbrev is_before : Origin → Bool
@@ -112,7 +124,7 @@ module _ (f : Program) (given : ℕ → Option ℕ) (col : IsColoring f given) (
     by_row : (z : Bool) → has_implicit_uses row ≡ z → (s : ℕ) × Contains (sets row) s × (q ≡ u s)
     by_row false z = sets_renamed u u row z q k
     by_row true z =
-        let there : Contains (sets row) q = subst (λ (r : Row). Contains (sets r) q) (same_implicit u u row z) k in
+        let there : Contains (sets row) q = subst (λ (xs : List ℕ). Contains xs q) (sets_implicit u u row z) k in
         let small = saved_small q (implicit_sets row z q there) in
         (q, there, sym (now_plain given q (physical f given col q small)))
 
@@ -148,13 +160,13 @@ module _ (f : Program) (given : ℕ → Option ℕ) (col : IsColoring f given) (
   saved_plain z r k = physical f given col r (saved_small r (implicit_sets row z r k))
 
   implicit_acted : (c d c' d' : Core) → N p c d → has_implicit_uses row ≡ true → Agree c d c' d' → Kept row c c' × Untold c c' →
-      Kept row d d' × Untold d d' → Acted c d c' d'
+      Kept row' d d' × Untold d d' → Acted c d c' d'
   implicit_acted c d c' d' near z (world, held) (kc, tc) (kd, td) = record {
     world = world;
     slots = λ m. held (Slot m) (inr (near.slots m));
     set = λ r k. held (Register r) (inl k) ∙ ap (content d'.regs) (sym (now_plain given r (saved_plain z r k)));
     stays = λ r out. kc (Register r) out;
-    stays' = λ r out. kd (Register r) (λ k. out (subst (λ (x : Row). Contains (sets x) r) (sym (same_implicit u u row z)) k));
+    stays' = λ r out. kd (Register r) out;
     is_written = λ r q some k e. (let bad : ◌≡◌ {A = Option ℕ} None (Some q) = sym (saved_plain z r k) ∙ some in cc);
     told = tc;
     told' = td;
@@ -209,36 +221,44 @@ module _ (f : Program) (given : ℕ → Option ℕ) (col : IsColoring f given) (
           by_outcome Asks h k = tt
           by_outcome Breaks h k = tt
 
-  -- calls and returns read physical registers alone
-  implicit_does : (c d : Core) → N p c d → has_implicit_uses row ≡ true → EndAlike (Acted c d) (act row c) (act row' d)
-  implicit_does c d near z =
-      let plain : ReadsPlain = λ r k. col.kept p item i n at kind (inl z) r k in
-      let m = act_alike row c d near.world (λ x k. row_uses_reads row x (λ y. held_in y c ≡ held_in y d) k
-      (λ q j. near.plain q (plain q j) (clear q j)) (λ q j. near.slots q)) in
-      subst (λ (r : Row). EndAlike (Acted c d) (act row c) (act r d)) (sym (same_implicit u u row z))
-      (alike_weaker (λ c' d'. Agree c d c' d' × (Kept row c c' × Untold c c') × (Kept row d d' × Untold d d'))
-      (Acted c d) (λ c' d' h. implicit_acted c d c' d' near z h.0 h.1 h.2) (act row c) (act row d)
-      (alike_and (Agree c d) (λ e. Kept row c e × Untold c e) (λ e. Kept row d e × Untold d e)
-      (act row c) (act row d) m (both row c) (both row d)))
+  -- calls and returns read physical registers by implicit operands
+  implicit_does : (c d : Core) → N p c d → has_implicit_uses row ≡ true →
+      ((r : ℕ) → Contains (explicit_reads row) r → content c.regs r ≡ content d.regs (u r)) → EndAlike (Acted c d) (act row c) (act row' d)
+  implicit_does c d near z alike =
+      let m = act_implicit u u row c d near.world z alike
+      (λ q j. near.plain q (col.implicit p item i n at kind z q (implicit_used row i.operands q (implicit i) j)) (clear q (implicit_read row q j)))
+      (λ q j. near.slots q) in
+      alike_weaker (λ c' d'. Agree c d c' d' × (Kept row c c' × Untold c c') × (Kept row' d d' × Untold d d'))
+      (Acted c d) (λ c' d' h. implicit_acted c d c' d' near z h.0 h.1 h.2) (act row c) (act row' d)
+      (alike_and (Agree c d) (λ e. Kept row c e × Untold c e) (λ e. Kept row' d e × Untold d e)
+      (act row c) (act row' d) m (both row c) (both row' d))
 
-  -- all code, where it reads alike; or the first stops, at code of the source
+  -- code, where it reads alike
+  reads_alike : (c d : Core) → N p c d → ((r : ℕ) → Contains (reads row) r → content c.regs r ≡ content d.regs (u r)) →
+      EndAlike (Acted c d) (act row c) (act row' d)
+  reads_alike c d near alike = by_row (has_implicit_uses row) refl where
+    by_row : (z : Bool) → has_implicit_uses row ≡ z → EndAlike (Acted c d) (act row c) (act row' d)
+    by_row true z = implicit_does c d near z (λ r k. alike r (explicit_read row r k))
+    by_row false z = explicit_does c d near z alike
+
+  -- all code, where it reads alike; or the first stops, at code of the source that is no return
   pub does : (c d : Core) → N p c d → EndAlike (Acted c d) (act row c) (act row' d) ⊎
-      ((act row c ≡ Traps) × (has_implicit_uses row ≡ false) × ((o : Pos) → item.origin ≡ Before o → ⊥))
-  does c d near = by_row (has_implicit_uses row) refl where
+      ((act row c ≡ Traps) × GoesOn row × ((o : Pos) → item.origin ≡ Before o → ⊥))
+  does c d near = by_end (goes_on_or_returns row) where
     Goal : Type 0
-    Goal = EndAlike (Acted c d) (act row c) (act row' d) ⊎
-        ((act row c ≡ Traps) × (has_implicit_uses row ≡ false) × ((o : Pos) → item.origin ≡ Before o → ⊥))
+    Goal = EndAlike (Acted c d) (act row c) (act row' d) ⊎ ((act row c ≡ Traps) × GoesOn row × ((o : Pos) → item.origin ≡ Before o → ⊥))
 
-    stops : (z : Bool) → are_written c (reads row) ≡ z → has_implicit_uses row ≡ false → ((o : Pos) → item.origin ≡ Before o → ⊥) → Goal
-    stops true w plain kept = inl (explicit_does c d near plain (written_reads c d near w))
-    stops false w plain kept = inr (act_stops row c w, plain, kept)
+    stops : (z : Bool) → are_written c (reads row) ≡ z → GoesOn row → ((o : Pos) → item.origin ≡ Before o → ⊥) → Goal
+    stops true w on kept = inl (reads_alike c d near (written_reads c d near w))
+    stops false w on kept = inr (act_stops row c w, on, kept)
 
-    by_origin : (z : Bool) → is_before item.origin ≡ z → has_implicit_uses row ≡ false → Goal
-    by_origin true b plain =
+    by_origin : (z : Bool) → is_before item.origin ≡ z → GoesOn row → Goal
+    by_origin true b on =
         let o = before_of item.origin b in
-        inl (explicit_does c d near plain (plain_reads c d near (λ r k. col.kept p item i n at kind (inr o) r k)))
-    by_origin false b plain = stops (are_written c (reads row)) refl plain (λ o e. (let bad : false ≡ true = sym b ∙ ap is_before e in cc))
+        inl (reads_alike c d near (plain_reads c d near (λ r k. col.added p item i n o.0 at kind o.1 r k)))
+    by_origin false b on = stops (are_written c (reads row)) refl on (λ o e. (let bad : false ≡ true = sym b ∙ ap is_before e in cc))
 
-    by_row : (z : Bool) → has_implicit_uses row ≡ z → Goal
-    by_row true z = inl (implicit_does c d near z)
-    by_row false z = by_origin (is_before item.origin) refl z
+    by_end : GoesOn row ⊎ ((has_implicit_uses row ≡ true) × (explicit_reads row ≡ [])) → Goal
+    by_end (inl on) = by_origin (is_before item.origin) refl on
+    by_end (inr (z, none)) =
+        inl (implicit_does c d near z (λ r k. absurd (none_in r (subst (λ (xs : List ℕ). Contains xs r) none k))))

@@ -18,8 +18,8 @@ use Rattle.sem_mir.specs.Live.{Defines}
 use Rattle.sem_mir.specs.State.{Core, content, assigned, updated}
 use Rattle.sem_mir.specs.Step.{Falls, seen, place_value, pair_value, mark_value, part_of, do_item}
 use Rattle.sem_mir.proofs.Told.{Below}
-use Rattle.pass_trait.specs.Causes.{AsksFor, goes_on}
-use Rattle.scan_allocation.specs.Coloring.{now, IsColoring}
+use Rattle.scan_rule.specs.pass_trait.Causes.{AsksFor, goes_on}
+use Rattle.scan_rule.specs.scan_allocation.Coloring.{now, IsColoring}
 use Rattle.scan_rule.specs.Rewrite.{value_now, place_now, kind_now}
 use Rattle.scan_rule.specs.Silence.{Overwritten, Unset}
 use Rattle.scan_simulation.specs.Follows.{SilencesWrong}

@@ -21,20 +21,20 @@ use Rattle.mir_func.specs.Resolve.{resolve}
 use Rattle.mir_func.specs.Sound.{AllItems, HasForm, IsSound, OriginIn}
 use Rattle.sem_mir.specs.Align.{is_jump, moves_on, Count, ByItems, ByEnds, sync_point_at, AnyOrigin, RunsMatch, After}
 use Rattle.sem_mir.specs.InitialState.{first_of, IsInitialState}
-use Rattle.sem_mir.specs.Follow.{KindFits, MarkFits, InOrder, next_rank, Among, none, same, left, OnRow, GoesTo, Counts, IsMetApart, Shape}
+use Rattle.sem_mir.specs.Follow.{KindFits, StaysVolatile, MarkFits, InOrder, next_rank, Among, none, same, left, OnRow, GoesTo, Counts, IsMetApart, Shape}
 use Rattle.sem_mir.specs.Follow.{IsEnd, KindsEndAlike, EndIsKept, EndComesFrom}
 use Rattle.sem_mir.specs.State.{Core, State}
 use Rattle.sem_mir.specs.Step.{Goes, do_item}
 use Rattle.sem_simulation.specs.MatchStates.{since_item}
-use Rattle.pass_trait.proofs.NopFollows.{moves_after}
-use Rattle.spill_simulation.proofs.Places.{stands_at, holds_at}
-use Rattle.scan_allocation.specs.Coloring.{now, IsColoring}
+use Rattle.scan_rule.proofs.pass_trait.NopFollows.{moves_after}
+use Rattle.scan_rule.proofs.spill_simulation.Places.{stands_at, holds_at}
+use Rattle.scan_rule.specs.scan_allocation.Coloring.{now, IsColoring}
 use Rattle.scan_rule.specs.Rewrite.{kind_now, item_now, items_now, block_now, blocks_now}
 use Rattle.scan_simulation.specs.Follows.{SilencesWrong, AllottedFollows}
 use Rattle.scan_simulation.proofs.Fetching.{fetch_now, fetched, item_from, item_to}
 use Rattle.scan_simulation.proofs.Near.{near_start}
 use Rattle.scan_simulation.proofs.Rows.{exit_now, on_row_now, on_row_from, kind_fits_now, mark_fits_now, ends_alike_now, ends_from, store_from, counts_renamed}
-use Rattle.scan_simulation.proofs.Rows.{goes_renamed}
+use Rattle.scan_simulation.proofs.Rows.{goes_renamed, volatile_now}
 use Rattle.scan_simulation.proofs.Views.{allotted_runs}
 
 -- ---- lists of items, each changed in its place
@@ -159,6 +159,8 @@ module _ (fn : Function) (subs : OperandPair → Option OperandPair) (given : �
       order = order_new;
       items = each_now given silent (λ b i. KindFits srcp i.kind b.source_end i.origin) (λ b i. KindFits srcp i.kind b.source_end i.origin)
           (λ b p i h. kind_fits_now fp given col (silent p) srcp i.kind b.source_end i.origin h) fn.blocks shape.items;
+      volatile = each_now given silent (λ b i. StaysVolatile srcp i.kind i.origin) (λ b i. StaysVolatile srcp i.kind i.origin)
+          (λ b p i h. volatile_now given (silent p) srcp i.kind i.origin h) fn.blocks shape.volatile;
       stores = λ c member p y block at save o.
           (let w = member_from given silent fn.blocks c member in
           let x = item_from given silent fn.blocks subs p y at in

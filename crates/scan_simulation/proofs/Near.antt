@@ -20,8 +20,8 @@ use Rattle.sem_mir.specs.Live.{Live, used, later, Uses, KindUses}
 use Rattle.sem_mir.specs.State.{Core, State, content, assigned}
 use Rattle.sem_mir.proofs.Parts.{row_uses}
 use Rattle.sem_mir.proofs.Told.{Below}
-use Rattle.pass_trait.specs.Causes.{begins, goes_on}
-use Rattle.scan_allocation.specs.Coloring.{IsColoring}
+use Rattle.scan_rule.specs.pass_trait.Causes.{begins, goes_on}
+use Rattle.scan_rule.specs.scan_allocation.Coloring.{IsColoring}
 use Rattle.scan_rule.specs.Silence.{Overwritten, Unset}
 
 module _ (f : Program) (given : ℕ → Option ℕ) (col : IsColoring f given) (start : Pos) where

@@ -1,7 +1,8 @@
 -- After code the two cores are as they are to be at the next position.
-use Rattle.std.proofs.Common.{◌≡◌, ◌⊎◌, inl, inr, ℕ, List, [], Contains, Option, Some, None, Bool, true, false, cond, nat_eq, slice_get}
+use Rattle.std.proofs.Common.{◌≡◌, ◌⊎◌, inl, inr, ℕ, List, [], ◌∷◌, Contains, Option, Some, None, Bool, true, false, cond, nat_eq, slice_get}
 use Rattle.std.proofs.Common.{refl, sym, ap, ◌∙◌, subst, arith}
 use Rattle.std.specs.Prelude.{IsTrue}
+use Rattle.rv64_instr.specs.declared.start.CallTarget.{CallTarget}
 use Rattle.rv64_instr.specs.DefsAndUses.{caller_saved, sets}
 use Rattle.rv64_instr.specs.Form.{has_form}
 use Rattle.rv64_instr.specs.Instruction.{Instruction}
@@ -15,24 +16,24 @@ use Rattle.mir_func.specs.declared.position.Pos.{Pos}
 use Rattle.mir_func.specs.declared.variable.VarId.{VarId}
 use Rattle.mir_func.specs.Graph.{Program, Here, Edge}
 use Rattle.sem_mir.specs.Effects.{EndAlike}
-use Rattle.sem_mir.specs.State.{Core, content, assigned, updated}
+use Rattle.sem_mir.specs.State.{Core, Reply, content, assigned, updated}
 use Rattle.sem_mir.specs.Step.{Outcome, Falls, Goes, Gives, Traps, Asks, Breaks, act, does, read, address_at, is_fault, slot_loaded, are_written, with_core}
-use Rattle.sem_mir.specs.Step.{seen, defined, given as given_pair, numbered}
+use Rattle.sem_mir.specs.Step.{seen, defined, given as given_pair, numbered, called_at, passed, call_faults, exec_external_call}
 use Rattle.rv64_instr.specs.DefsAndUses.{reads}
-use Rattle.sem_mir.proofs.Outcomes.{alike_with}
+use Rattle.sem_mir.proofs.Outcomes.{alike_with, after_reply}
 use Rattle.sem_mir.proofs.Told.{Below}
-use Rattle.pass_trait.specs.Causes.{begins, goes_on}
-use Rattle.spill_code.specs.Rewrite.{renamed_code}
-use Rattle.spill_simulation.specs.MaySpill.{uses_in, defs_in}
-use Rattle.spill_simulation.proofs.Explicit.{Explicit, explicit, defined_in}
-use Rattle.spill_simulation.proofs.Items.{call_is, call_implicit}
-use Rattle.spill_simulation.proofs.Near.{cases_in}
-use Rattle.spill_simulation.proofs.Rows.{renamed_row, row_renamed}
-use Rattle.scan_allocation.proofs.Named.{saved_small}
-use Rattle.scan_allocation.specs.Coloring.{now, IsColoring}
+use Rattle.scan_rule.specs.pass_trait.Causes.{begins, goes_on}
+use Rattle.scan_rule.specs.spill_code.Rewrite.{renamed_code}
+use Rattle.scan_rule.specs.spill_simulation.MaySpill.{uses_in, defs_in}
+use Rattle.scan_rule.proofs.spill_simulation.Explicit.{Explicit, explicit, defined_in}
+use Rattle.scan_rule.proofs.spill_simulation.Items.{call_is, call_implicit}
+use Rattle.scan_rule.proofs.spill_simulation.Near.{cases_in}
+use Rattle.scan_rule.proofs.spill_simulation.Rows.{renamed_row, row_renamed}
+use Rattle.scan_rule.proofs.scan_allocation.Named.{saved_small}
+use Rattle.scan_rule.specs.scan_allocation.Coloring.{now, IsColoring}
 use Rattle.scan_rule.specs.Silence.{Overwritten}
 use Rattle.scan_simulation.proofs.Clobbered.{clobbered}
-use Rattle.scan_simulation.proofs.CodeRuns.{Acted, set_defines, defines_set, set_from, does as code_acts}
+use Rattle.scan_simulation.proofs.CodeRuns.{Acted, GoesOn, set_defines, defines_set, set_from, does as code_acts}
 use Rattle.scan_simulation.proofs.Near.{Near}
 use Rattle.scan_simulation.proofs.Numbered.{renamed_at, call_at, seen_below, pointer_below, given_below, call_below, call_clobbers, call_sets}
 use Rattle.scan_simulation.proofs.Renaming.{now_plain, now_given, physical, keeps_zero}
@@ -50,7 +51,11 @@ nothing_either : (b : Bool) (x y : Outcome) → GivesNothing x → GivesNothing 
 nothing_either true x y a b = a
 nothing_either false x y a b = b
 
-does_nothing : (r : Row) (c : Core) → has_implicit_uses r ≡ false → GivesNothing (does r c)
+script_nothing : (t : CallTarget) (vs ns : List ℕ) (c : Core) (rs : List Reply) → GivesNothing (exec_external_call t vs ns c rs)
+script_nothing t vs ns c [] = tt
+script_nothing t vs ns c (r ∷ rs) = nothing_either (call_faults c ns r) Traps (Falls (after_reply t vs ns c r rs)) tt tt
+
+does_nothing : (r : Row) (c : Core) → GoesOn r → GivesNothing (does r c)
 unfolding does
 does_nothing (Loads rd op b o) c e = nothing_either (is_fault b c (address_at c b o) (load_width op)) Traps _ tt tt
 does_nothing (Stores op rs b o) c e = nothing_either (is_fault b c (address_at c b o) (store_width op)) Traps _ tt tt
@@ -59,12 +64,12 @@ does_nothing (LoadsSlot rd n) c e = by_slot (c.slots n) where
   by_slot None = tt
   by_slot (Some v) = tt
 does_nothing (Branches op a b t) c e = nothing_either (taken op (read c a) (read c b)) (Goes t c) (Falls c) tt tt
-does_nothing (Calls call) c e = cc
-does_nothing (Returns v) c e = cc
+does_nothing (Calls call) c e = script_nothing (called_at c call.callee) (passed c call) call.outgoing c c.script
+does_nothing (Returns v) c e = absurd e
 does_nothing Unfit c e = tt
 does_nothing _ c e = tt
 
-pub act_nothing : (r : Row) (c : Core) → has_implicit_uses r ≡ false → GivesNothing (act r c)
+pub act_nothing : (r : Row) (c : Core) → GoesOn r → GivesNothing (act r c)
 unfolding act
 act_nothing r c e = nothing_either (are_written c (reads r)) (does r c) Traps (does_nothing r c e) tt
 
@@ -76,10 +81,9 @@ with_nothing k Traps h = tt
 with_nothing k Asks h = tt
 with_nothing k Breaks h = tt
 
-pub implicit_renamed : (u d : ℕ → ℕ) (r : Row) → has_implicit_uses (renamed_row u d r) ≡ has_implicit_uses r
-implicit_renamed u d (Calls call) = refl
-implicit_renamed u d (Returns v) = refl
-implicit_renamed u d _ = refl
+goes_on_renamed : (u d : ℕ → ℕ) (r : Row) → GoesOn r → GoesOn (renamed_row u d r)
+goes_on_renamed u d (Returns v) h = h
+goes_on_renamed u d _ h = tt
 
 updated_below : (n : ℕ) (a b : ℕ → Option ℕ) (p q : ℕ → ℕ → Option ℕ) → ((o : ℕ) → Below (a o) (b o)) → ((m o : ℕ) → Below (p m o) (q m o)) →
     (m o : ℕ) → Below (updated n a p m o) (updated n b q m o)
@@ -265,10 +269,10 @@ module _ (f : Program) (given : ℕ → Option ℕ) (col : IsColoring f given) (
           (sym (call_is u u row))
           (alike_with (A c d) Next (numbered false (is_call row) n i.operands) (numbered false (is_call row) n i'.operands)
           (λ c' d' h q edge. numbered_next c d c' d' near h q edge n) (act row c) (act (renamed_row u u row) d) alike)))
-      | inr (stops, plain, kept) ↦ inr (
+      | inr (stops, on, kept) ↦ inr (
         ap (with_core (numbered false (is_call row) n i.operands)) stops,
         with_nothing (numbered false (is_call (row_of i')) n i'.operands) (act (row_of i') d)
-            (act_nothing (row_of i') d (ap has_implicit_uses same_row ∙ implicit_renamed u u row ∙ plain)),
+            (act_nothing (row_of i') d (subst GoesOn (sym same_row) (goes_on_renamed u u row on))),
         kept,
       )
     ]

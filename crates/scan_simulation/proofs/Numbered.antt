@@ -11,16 +11,16 @@ use Rattle.rv64_instr.specs.declared.operand.Operand.{Operand}
 use Rattle.rv64_instr.specs.declared.operand.Operand.TheVariants.{Def, Use, ImplicitDef, ImplicitUse, Imm, Slot, Object, Block, Symbol, Mask}
 use Rattle.rv64_instr.specs.Arithmetic.{word}
 use Rattle.rv64_instr.specs.DefsAndUses.{caller_saved, sets}
-use Rattle.rv64_instr.specs.Form.{has_form, is_argument, is_call_register, is_clobbered}
+use Rattle.rv64_instr.specs.Form.{has_form, is_argument, is_clobbered}
 use Rattle.rv64_instr.specs.LocationEffects.{is_call}
 use Rattle.rv64_instr.specs.Row.{Row, Calls, row_by, immediate_row, object_row, move_row, implicit_uses, held_tail, held_gone}
 use Rattle.sem_mir.specs.State.{Core, content}
 use Rattle.sem_mir.specs.Step.{seen, defined, given as given_pair}
 use Rattle.sem_mir.proofs.Told.{Below}
-use Rattle.spill_code.specs.Rewrite.{renamed_operand}
-use Rattle.spill_simulation.specs.MaySpill.{defs_in}
-use Rattle.spill_simulation.proofs.Items.{call_implicit}
-use Rattle.scan_allocation.proofs.Named.{immediate_plain, object_plain, move_plain, not_both}
+use Rattle.scan_rule.specs.spill_code.Rewrite.{renamed_operand}
+use Rattle.scan_rule.specs.spill_simulation.MaySpill.{defs_in}
+use Rattle.scan_rule.proofs.spill_simulation.Items.{call_implicit}
+use Rattle.scan_rule.proofs.scan_allocation.Named.{immediate_plain, object_plain, move_plain, not_both}
 
 module _ (u : ℕ → ℕ) where
   abbrev pub renamed_def : Option ℕ → Option ℕ
@@ -114,10 +114,9 @@ by_op (Store op) (Use a ∷ Slot n ∷ Imm z ∷ rest) e i o r d = cc
 by_op (Store op) (Use a ∷ Object n ∷ Imm z ∷ rest) e i o r d = cc
 by_op Copy (Def rd ∷ Use a ∷ rest) e i o r d = absurd (not_both (move_plain rd a) (call_implicit (move_row rd a) i))
 by_op PseudoBr (Block n ∷ rest) e i o r d = cc
-by_op PseudoCallIndirect (ImplicitUse q ∷ Mask ∷ rest) e i zero r d = cc
-by_op PseudoCallIndirect (ImplicitUse q ∷ Mask ∷ rest) e i (suc zero) r d = cc
-by_op PseudoCallIndirect (ImplicitUse q ∷ Mask ∷ rest) e i (suc (suc o)) r d =
-    argument rest o r (and_parts (is_call_register q) (list_all is_argument rest) e).1 d
+by_op PseudoCallIndirect (Use q ∷ Mask ∷ rest) e i zero r d = cc
+by_op PseudoCallIndirect (Use q ∷ Mask ∷ rest) e i (suc zero) r d = cc
+by_op PseudoCallIndirect (Use q ∷ Mask ∷ rest) e i (suc (suc o)) r d = argument rest o r e d
 by_op PseudoTail (Symbol name ∷ rest) e i o r d = cc
 by_op PseudoTailIndirect os e i o r d = absurd (tail_no_call (implicit_uses os) i)
 by_op NoReturnCall (Symbol name ∷ rest) e i o r d = cc

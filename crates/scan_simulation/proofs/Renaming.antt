@@ -1,9 +1,9 @@
 -- The new names of registers: x0 and x2 keep theirs, and nothing else gets them.
 use Rattle.std.proofs.Common.{◌≡◌, ℕ, suc, ◌<◌, Option, Some, None, refl, ap, arith}
 use Rattle.mir_func.specs.Graph.{Program}
-use Rattle.spill_simulation.proofs.Acting.{SetsZero}
-use Rattle.spill_simulation.proofs.Rows.{KeepsZero}
-use Rattle.scan_allocation.specs.Coloring.{now_by, now, IsColoring}
+use Rattle.scan_rule.proofs.spill_simulation.Acting.{SetsZero}
+use Rattle.scan_rule.proofs.spill_simulation.Rows.{KeepsZero}
+use Rattle.scan_rule.specs.scan_allocation.Coloring.{now_by, now, IsColoring}
 
 pub now_plain : (given : ℕ → Option ℕ) (r : ℕ) → given r ≡ None → now given r ≡ r
 now_plain given r e = ap (now_by r) e

@@ -13,10 +13,11 @@ use Rattle.mir_func.specs.declared.variable.VarId.{VarId}
 use Rattle.mir_func.specs.Exits.{row_exit, exit_of}
 use Rattle.mir_func.specs.Graph.{Program, Fetch, Here, EndOfBlock, Outside}
 use Rattle.sem_mir.specs.Align.{Count, ByItems, ByEnds, ByWords, is_code, is_jump_row, is_jump, moves_on}
-use Rattle.sem_mir.specs.Follow.{MayAdd, HasClass, ItemHasClass, RowFits, KindFits, MarkFits, OnRow, GoesTo, Counts, SameEnd, IsEnd, KindsEndAlike}
+use Rattle.sem_mir.specs.Follow.{MayAdd, HasClass, ItemHasClass, RowFits, KindFits, StaysVolatile, MarkFits, OnRow, GoesTo, Counts, SameEnd, IsEnd}
+use Rattle.sem_mir.specs.Follow.{KindsEndAlike}
 use Rattle.std.proofs.Common.{Option}
-use Rattle.spill_simulation.proofs.Rows.{renamed_row, row_renamed}
-use Rattle.scan_allocation.specs.Coloring.{now, IsColoring}
+use Rattle.scan_rule.proofs.spill_simulation.Rows.{renamed_row, row_renamed}
+use Rattle.scan_rule.specs.scan_allocation.Coloring.{now, IsColoring}
 use Rattle.scan_rule.specs.Rewrite.{value_now, kind_now}
 use Rattle.scan_simulation.proofs.Renaming.{keeps_zero}
 
@@ -83,6 +84,13 @@ module _ (u : ℕ → ℕ) where
   goes_renamed n (Branches op a b t) h = h
   goes_renamed n (Jumps t) h = h
   goes_renamed n _ h = absurd h
+
+pub volatile_now : (given : ℕ → Option ℕ) (silent : ℕ → Bool) (src : Program) (k : ItemKind) (o : Origin) → StaysVolatile src k o →
+    StaysVolatile src (kind_now given silent k) o
+volatile_now given silent src (Code i n) (Kept p) h = h
+volatile_now given silent src (Code i n) (Before p) h = tt
+volatile_now given silent src (Mark v m) o h = tt
+volatile_now given silent src (Phi q n) o h = tt
 
 module _ (f : Program) (given : ℕ → Option ℕ) (col : IsColoring f given) (silent : ℕ → Bool) where
   pub code_now : (k : ItemKind) → is_code (kind_now given silent k) ≡ is_code k

@@ -28,8 +28,8 @@ use Rattle.sem_simulation.specs.InPlace.{TrapsAlone, DoAlike, View, ended, bolde
 use Rattle.sem_simulation.proofs.InPlace.{in_place_follows}
 use Rattle.sem_simulation.proofs.Laid.{laid_out, in_order_at, one_end, from_home, from_within, from_before_end, falls_down}
 use Rattle.sem_simulation.proofs.Stations.{code_sync_point, end_is_sync_point, IsSyncPointOf, of_item, of_end, sync_point_is_of}
-use Rattle.pass_trait.proofs.Thinning.{none_of_front}
-use Rattle.scan_allocation.specs.Coloring.{IsColoring}
+use Rattle.scan_rule.proofs.pass_trait.Thinning.{none_of_front}
+use Rattle.scan_rule.specs.scan_allocation.Coloring.{IsColoring}
 use Rattle.scan_rule.specs.Rewrite.{kind_now, items_now, blocks_now}
 use Rattle.scan_simulation.specs.Follows.{SilencesWrong}
 use Rattle.scan_simulation.proofs.Debug.{near_move, debug_does}

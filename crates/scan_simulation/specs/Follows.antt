@@ -9,10 +9,10 @@ use Rattle.mir_func.specs.Graph.{Program, Here, block_start, program_of}
 use Rattle.mir_func.specs.Resolve.{resolve}
 use Rattle.mir_func.specs.Sound.{AllItems, HasForm, IsSound}
 use Rattle.sem_mir.specs.InitialState.{first_of}
-use Rattle.pass_trait.specs.Causes.{AsksFor}
-use Rattle.pass_trait.specs.Change.{change}
-use Rattle.pass_trait.specs.Simulation.{PreservesSimulation}
-use Rattle.scan_allocation.specs.Coloring.{IsColoring}
+use Rattle.scan_rule.specs.pass_trait.Causes.{AsksFor}
+use Rattle.scan_rule.specs.pass_trait.Change.{change}
+use Rattle.scan_rule.specs.pass_trait.Simulation.{PreservesSimulation}
+use Rattle.scan_rule.specs.scan_allocation.Coloring.{IsColoring}
 use Rattle.scan_rule.specs.Rewrite.{allotted}
 use Rattle.scan_rule.specs.Silence.{Overwritten, Unset}
 

@@ -18,12 +18,12 @@ use Rattle.pass_trait.specs.Rule.{StandsAt}
 use Rattle.spill_code.specs.declared.spilling.SlotAssignment.{SlotAssignment}
 use Rattle.spill_code.specs.declared.spilling.Spilling.{Spilling}
 use Rattle.spill_code.specs.Rewrite.{slot_of}
-use Rattle.spill_debug.specs.RewrittenDebugItems.{is_scratch}
-use Rattle.spill_debug.specs.Lost.{LosesScratch, is_silent}
-use Rattle.spill_proof.specs.Whole.{spilled_by, where_spilled}
-use Rattle.spill_proof.proofs.Causes.{in_left, home_slot, below}
-use Rattle.spill_rule.specs.Choice.{next_slot, first_scratch, second_scratch}
-use Rattle.scan_intervals.specs.declared.interval.LiveInterval.{LiveInterval}
+use Rattle.scan_rule.specs.spill_debug.RewrittenDebugItems.{is_scratch}
+use Rattle.scan_rule.specs.spill_debug.Lost.{LosesScratch, is_silent}
+use Rattle.scan_rule.specs.spill_proof.Whole.{spilled_by, where_spilled}
+use Rattle.scan_rule.proofs.spill_proof.Causes.{in_left, home_slot, below}
+use Rattle.scan_rule.specs.spill_rule.Choice.{next_slot, first_scratch, second_scratch}
+use Rattle.scan_rule.specs.scan_intervals.declared.interval.LiveInterval.{LiveInterval}
 use Rattle.scan_slots.specs.Choice.{stays, all_homes, homes_unless, homes_left, settling_of, settled_whole}
 use Rattle.scan_slots.specs.Rule.{AreLeft}
 use Rattle.scan_slots.specs.Step.{settle_debug}

@@ -10,17 +10,17 @@ use Rattle.pass_trait.specs.Simulation.{PreservesSimulation}
 use Rattle.pass_trait.proofs.NopFollows.{following_itself}
 use Rattle.spill_code.specs.declared.spilling.SlotAssignment.{SlotAssignment}
 use Rattle.spill_code.specs.declared.spilling.Spilling.{Spilling}
-use Rattle.spill_debug.specs.RewrittenDebugItems.{asked}
-use Rattle.spill_debug.proofs.AskedSound.{asked_is_sound}
-use Rattle.spill_proof.specs.Whole.{spilled_by, where_spilled}
-use Rattle.spill_proof.proofs.Elsewhere.{asks_elsewhere, forms_asked}
-use Rattle.spill_proof.proofs.Following.{asked_follows, both, all_numbers}
-use Rattle.spill_proof.proofs.Low.{low_function}
-use Rattle.spill_proof.proofs.Sound.{spilled_is_sound}
-use Rattle.spill_proof.proofs.Stripped.{asked_is_stripped}
-use Rattle.spill_simulation.specs.Follows.{MaySpill}
-use Rattle.spill_simulation.proofs.Following.{spilled_follows}
-use Rattle.scan_intervals.specs.declared.interval.LiveInterval.{LiveInterval}
+use Rattle.scan_rule.specs.spill_debug.RewrittenDebugItems.{asked}
+use Rattle.scan_rule.proofs.spill_debug.AskedSound.{asked_is_sound}
+use Rattle.scan_rule.specs.spill_proof.Whole.{spilled_by, where_spilled}
+use Rattle.scan_rule.proofs.spill_proof.Elsewhere.{asks_elsewhere, forms_asked}
+use Rattle.scan_rule.proofs.spill_proof.Following.{asked_follows, both, all_numbers}
+use Rattle.scan_rule.proofs.spill_proof.Low.{low_function}
+use Rattle.scan_rule.proofs.spill_proof.Sound.{spilled_is_sound}
+use Rattle.scan_rule.proofs.spill_proof.Stripped.{asked_is_stripped}
+use Rattle.scan_rule.specs.spill_simulation.Follows.{MaySpill}
+use Rattle.scan_rule.proofs.spill_simulation.Following.{spilled_follows}
+use Rattle.scan_rule.specs.scan_intervals.declared.interval.LiveInterval.{LiveInterval}
 use Rattle.scan_slots.specs.Choice.{stays, all_homes, homes_unless, homes_left, settling_of}
 use Rattle.scan_slots.specs.Laws.{MayBeSettled, SettledFollows, SettledIsSound}
 use Rattle.scan_slots.proofs.MaySettle.{apart_scratch, may_settle, parts}

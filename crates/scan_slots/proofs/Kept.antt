@@ -12,11 +12,11 @@ use Rattle.pass_trait.specs.Order.{IsInOrder}
 use Rattle.pass_trait.specs.Sizes.{greatest_number}
 use Rattle.spill_code.specs.declared.spilling.SlotAssignment.{SlotAssignment}
 use Rattle.spill_code.specs.declared.spilling.Spilling.{Spilling}
-use Rattle.spill_debug.specs.Lost.{LosesScratch, AreScratchLosses}
-use Rattle.spill_proof.specs.Kept.{AreTaken}
-use Rattle.spill_proof.proofs.Blocks.{all_become}
-use Rattle.spill_proof.proofs.Standing.{among, standing}
-use Rattle.scan_intervals.specs.declared.interval.LiveInterval.{LiveInterval}
+use Rattle.scan_rule.specs.spill_debug.Lost.{LosesScratch, AreScratchLosses}
+use Rattle.scan_rule.specs.spill_proof.Kept.{AreTaken}
+use Rattle.scan_rule.proofs.spill_proof.Blocks.{all_become}
+use Rattle.scan_rule.proofs.spill_proof.Standing.{among, standing}
+use Rattle.scan_rule.specs.scan_intervals.declared.interval.LiveInterval.{LiveInterval}
 use Rattle.scan_slots.specs.Choice.{homes_left, settling_of, settled_whole}
 use Rattle.scan_slots.specs.Kept.{SettledKeepsStep}
 use Rattle.scan_slots.specs.Rule.{AreLeft}

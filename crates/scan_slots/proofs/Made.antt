@@ -7,16 +7,16 @@ use Rattle.mir_func.specs.Strip.{stripped_blocks, stripped}
 use Rattle.spill_code.specs.declared.spilling.SlotAssignment.{SlotAssignment}
 use Rattle.spill_code.specs.declared.spilling.Spilling.{Spilling}
 use Rattle.spill_code.specs.Rewrite.{spilled_blocks}
-use Rattle.spill_debug.specs.RewrittenDebugItems.{blocks_asked}
-use Rattle.spill_proof.specs.Whole.{spilled_by, where_spilled}
-use Rattle.spill_proof.proofs.Bare.{scratch_bare}
-use Rattle.spill_proof.proofs.Stripped.{asked_is_stripped, spilled_is_stripped}
-use Rattle.spill_rule.specs.Choice.{first_scratch, second_scratch}
-use Rattle.spill_rule.proofs.RuleFollows.{blocks_same}
-use Rattle.scan_intervals.specs.declared.interval.LiveInterval.{LiveInterval}
-use Rattle.scan_intervals.specs.Liveness.{at_starts}
-use Rattle.scan_intervals.specs.Points.{CodePoint}
-use Rattle.scan_intervals.specs.Intervals.{AreIntervals}
+use Rattle.scan_rule.specs.spill_debug.RewrittenDebugItems.{blocks_asked}
+use Rattle.scan_rule.specs.spill_proof.Whole.{spilled_by, where_spilled}
+use Rattle.scan_rule.proofs.spill_proof.Bare.{scratch_bare}
+use Rattle.scan_rule.proofs.spill_proof.Stripped.{asked_is_stripped, spilled_is_stripped}
+use Rattle.scan_rule.specs.spill_rule.Choice.{first_scratch, second_scratch}
+use Rattle.scan_rule.proofs.spill_rule.RuleFollows.{blocks_same}
+use Rattle.scan_rule.specs.scan_intervals.declared.interval.LiveInterval.{LiveInterval}
+use Rattle.scan_rule.specs.scan_intervals.Liveness.{at_starts}
+use Rattle.scan_rule.specs.scan_intervals.Points.{CodePoint}
+use Rattle.scan_rule.specs.scan_intervals.Intervals.{AreIntervals}
 use Rattle.scan_rule.proofs.Bare.{points_bare, decides_bare, adds_bare}
 use Rattle.scan_slots.specs.Choice.{stays, all_homes, homes_unless, homes_left, settling_of, settled, settled_whole}
 use Rattle.scan_slots.specs.Rule.{AreLeft, IsSettled}

@@ -11,6 +11,7 @@ use Rattle.rv64_instr.specs.declared.place.Place.TheVariants.{Register, Slot, Co
 use Rattle.rv64_instr.specs.Form.{has_form}
 use Rattle.rv64_instr.specs.Instruction.{Instruction}
 use Rattle.rv64_instr.specs.LocationEffects.{has_implicit_uses}
+use Rattle.rv64_instr.proofs.Tails.{global_low}
 use Rattle.rv64_instr.specs.Row.{row_of}
 use Rattle.mir_func.specs.declared.block.Block.{Block}
 use Rattle.mir_func.specs.declared.debug_substitution.OperandPair.{OperandPair}
@@ -28,16 +29,16 @@ use Rattle.pass_trait.specs.Causes.{is_of_register, names, is_named, scratch_of}
 use Rattle.spill_code.specs.declared.spilling.SlotAssignment.{SlotAssignment}
 use Rattle.spill_code.specs.declared.spilling.Spilling.{Spilling}
 use Rattle.spill_code.specs.Rewrite.{slot_of}
-use Rattle.spill_proof.proofs.Bare.{named_bare}
-use Rattle.spill_rule.specs.Choice.{is_added, lacks_scratch, next_slot}
-use Rattle.spill_rule.specs.Chosen.{AsksElsewhere}
-use Rattle.spill_rule.proofs.Chosen.{item_in, home_from, home_own, next_above, use_named, def_named, implicit_named, contains_nth}
-use Rattle.spill_rule.proofs.Scratch.{Two, two, saved}
-use Rattle.spill_simulation.specs.MaySpill.{uses_in, defs_in, implicits_in, IsNoScratch, FitsCode, Fits, AreHomes}
-use Rattle.spill_simulation.specs.Follows.{MaySpill}
-use Rattle.scan_allocation.specs.Allocation.{is_virtual, names_virtual, adds_virtual}
-use Rattle.scan_allocation.proofs.Named.{saved_small, implicits_small}
-use Rattle.scan_intervals.specs.declared.interval.LiveInterval.{LiveInterval}
+use Rattle.scan_rule.proofs.spill_proof.Bare.{named_bare}
+use Rattle.scan_rule.specs.spill_rule.Choice.{is_added, lacks_scratch, next_slot}
+use Rattle.scan_rule.specs.spill_rule.Chosen.{AsksElsewhere}
+use Rattle.scan_rule.proofs.spill_rule.Chosen.{item_in, home_from, home_own, next_above, use_named, def_named, implicit_named, contains_nth}
+use Rattle.scan_rule.proofs.spill_rule.Scratch.{Two, two, saved}
+use Rattle.scan_rule.specs.spill_simulation.MaySpill.{uses_in, defs_in, implicits_in, IsNoScratch, FitsCode, Fits, AreHomes}
+use Rattle.scan_rule.specs.spill_simulation.Follows.{MaySpill}
+use Rattle.scan_rule.specs.scan_allocation.Allocation.{is_virtual, names_virtual, adds_virtual}
+use Rattle.scan_rule.proofs.scan_allocation.Named.{saved_small, implicits_small}
+use Rattle.scan_rule.specs.scan_intervals.declared.interval.LiveInterval.{LiveInterval}
 use Rattle.scan_rule.proofs.Bare.{adds_bare}
 use Rattle.scan_slots.specs.Choice.{stays, all_homes, homes_unless, settling_of}
 use Rattle.scan_slots.specs.Rule.{AreLeft}
@@ -123,6 +124,7 @@ module _ (f : Function) (intervals : List LiveInterval) (left : AreLeft f interv
       kept = λ r n e c. (let lt = saved_small r c in let le = virtual r n e in omega (arith, lt, le));
       no_zero = plain 0 (omega arith);
       no_pointer = plain 2 (omega arith);
+      no_global = λ r e. (let low = global_low r e in plain r (omega (arith, low)));
       own = λ q r n e h.
           home_own (next_slot f.slots) (map (λ (i : LiveInterval). i.register) intervals) q r n (home_is q n e).1 (home_is r n h).1;
       fresh = λ r n e c.

@@ -1,10 +1,10 @@
 -- A function's virtual registers have one list of intervals.
 use Rattle.std.proofs.Common.{◌≡◌, ℕ, List, Bool, sym, ap, ◌∙◌, subst}
 use Rattle.mir_func.specs.Function.{Function}
-use Rattle.scan_intervals.specs.declared.interval.LiveInterval.{LiveInterval}
-use Rattle.scan_intervals.specs.Liveness.{at_starts}
-use Rattle.scan_intervals.specs.Points.{points_of}
-use Rattle.scan_intervals.specs.Intervals.{AreIntervals}
+use Rattle.scan_rule.specs.scan_intervals.declared.interval.LiveInterval.{LiveInterval}
+use Rattle.scan_rule.specs.scan_intervals.Liveness.{at_starts}
+use Rattle.scan_rule.specs.scan_intervals.Points.{points_of}
+use Rattle.scan_rule.specs.scan_intervals.Intervals.{AreIntervals}
 use Rattle.scan_rule.proofs.Intervals.{one_list}
 use Rattle.scan_rule.proofs.Same.{one_test}
 use Rattle.scan_slots.specs.Choice.{settled}

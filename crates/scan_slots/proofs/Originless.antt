@@ -5,12 +5,12 @@ use Rattle.mir_func.specs.Limits.{MAX_SLOTS}
 use Rattle.pass_trait.specs.Code.{originless_block, originless}
 use Rattle.spill_code.specs.declared.spilling.SlotAssignment.{SlotAssignment}
 use Rattle.spill_code.specs.Rewrite.{spilled_blocks}
-use Rattle.spill_rule.specs.Choice.{first_scratch, second_scratch}
-use Rattle.spill_rule.specs.Laws.{scratch_same, blocks_originless}
-use Rattle.scan_intervals.specs.declared.interval.LiveInterval.{LiveInterval}
-use Rattle.scan_intervals.specs.Liveness.{at_starts}
-use Rattle.scan_intervals.specs.Points.{CodePoint}
-use Rattle.scan_intervals.specs.Intervals.{AreIntervals}
+use Rattle.scan_rule.specs.spill_rule.Choice.{first_scratch, second_scratch}
+use Rattle.scan_rule.specs.spill_rule.Laws.{scratch_same, blocks_originless}
+use Rattle.scan_rule.specs.scan_intervals.declared.interval.LiveInterval.{LiveInterval}
+use Rattle.scan_rule.specs.scan_intervals.Liveness.{at_starts}
+use Rattle.scan_rule.specs.scan_intervals.Points.{CodePoint}
+use Rattle.scan_rule.specs.scan_intervals.Intervals.{AreIntervals}
 use Rattle.scan_rule.proofs.Originless.{adds_same, decides_originless, points_originless}
 use Rattle.scan_slots.specs.Choice.{stays, all_homes, homes_unless, settling_of, settled}
 use Rattle.scan_slots.specs.Laws.{SettlingSeesCodeAlone}

@@ -16,10 +16,10 @@ use Rattle.pass_trait.specs.Rule.{StandsAt, item}
 use Rattle.pass_trait.specs.Sizes.{greatest_number}
 use Rattle.spill_code.specs.declared.spilling.SlotAssignment.{SlotAssignment}
 use Rattle.spill_code.specs.Rewrite.{slot_of}
-use Rattle.spill_debug.specs.Lost.{LosesScratch}
-use Rattle.spill_proof.specs.Step.{AsksForHome}
-use Rattle.spill_proof.proofs.Ruled.{IsRuled}
-use Rattle.scan_intervals.specs.declared.interval.LiveInterval.{LiveInterval}
+use Rattle.scan_rule.specs.spill_debug.Lost.{LosesScratch}
+use Rattle.scan_rule.specs.spill_proof.Step.{AsksForHome}
+use Rattle.scan_rule.proofs.spill_proof.Ruled.{IsRuled}
+use Rattle.scan_rule.specs.scan_intervals.declared.interval.LiveInterval.{LiveInterval}
 use Rattle.scan_slots.specs.Choice.{homes_left, settling_of}
 use Rattle.scan_slots.specs.Rule.{AreLeft}
 use Rattle.scan_slots.specs.Step.{settle_debug}

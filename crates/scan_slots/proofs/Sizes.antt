@@ -11,9 +11,9 @@ use Rattle.pass_trait.specs.Causes.{scratch_of}
 use Rattle.pass_trait.specs.Change.{change}
 use Rattle.pass_trait.specs.Sizes.{greatest_number, KeepsSizes}
 use Rattle.spill_code.specs.declared.spilling.SlotAssignment.{SlotAssignment}
-use Rattle.spill_proof.specs.Whole.{spilled_by, where_spilled}
-use Rattle.spill_proof.proofs.Sizes.{sizes_by, stays_sizes, low_first, low_second, low_scratch}
-use Rattle.scan_intervals.specs.declared.interval.LiveInterval.{LiveInterval}
+use Rattle.scan_rule.specs.spill_proof.Whole.{spilled_by, where_spilled}
+use Rattle.scan_rule.proofs.spill_proof.Sizes.{sizes_by, stays_sizes, low_first, low_second, low_scratch}
+use Rattle.scan_rule.specs.scan_intervals.declared.interval.LiveInterval.{LiveInterval}
 use Rattle.scan_slots.specs.Choice.{stays, all_homes, homes_unless, homes_left, settling_of}
 use Rattle.scan_slots.specs.Laws.{SettledKeepsSizes}
 use Rattle.scan_slots.specs.Rule.{AreLeft}

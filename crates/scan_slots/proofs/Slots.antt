@@ -7,10 +7,10 @@ use Rattle.mir_func.specs.Function.{Function}
 use Rattle.mir_func.specs.Limits.{MAX_SLOTS}
 use Rattle.mir_func.specs.Sound.{AreApart}
 use Rattle.spill_code.specs.declared.spilling.SlotAssignment.{SlotAssignment}
-use Rattle.spill_proof.specs.Sound.{slots_now}
-use Rattle.spill_proof.proofs.Slots.{below_next, apart_more}
-use Rattle.spill_rule.specs.Choice.{next_slot, homes_from}
-use Rattle.scan_intervals.specs.declared.interval.LiveInterval.{LiveInterval}
+use Rattle.scan_rule.specs.spill_proof.Sound.{slots_now}
+use Rattle.scan_rule.proofs.spill_proof.Slots.{below_next, apart_more}
+use Rattle.scan_rule.specs.spill_rule.Choice.{next_slot, homes_from}
+use Rattle.scan_rule.specs.scan_intervals.declared.interval.LiveInterval.{LiveInterval}
 use Rattle.scan_slots.specs.Choice.{all_homes, settling_of, homes_unless, stays}
 
 abbrev slot : SlotAssignment → ℕ

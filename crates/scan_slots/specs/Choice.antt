@@ -6,10 +6,10 @@ use Rattle.pass_trait.specs.Causes.{scratch_of}
 use Rattle.spill_code.specs.declared.spilling.SlotAssignment.{SlotAssignment}
 use Rattle.spill_code.specs.declared.spilling.Spilling.{Spilling}
 use Rattle.spill_code.specs.Rewrite.{spilled_blocks}
-use Rattle.spill_proof.specs.Whole.{spilled_by, where_spilled}
-use Rattle.spill_rule.specs.Choice.{lacks_scratch, next_slot, homes_from, first_scratch, second_scratch}
-use Rattle.scan_intervals.specs.declared.interval.LiveInterval.{LiveInterval}
-use Rattle.scan_allocation.specs.Allocation.{adds_virtual}
+use Rattle.scan_rule.specs.spill_proof.Whole.{spilled_by, where_spilled}
+use Rattle.scan_rule.specs.spill_rule.Choice.{lacks_scratch, next_slot, homes_from, first_scratch, second_scratch}
+use Rattle.scan_rule.specs.scan_intervals.declared.interval.LiveInterval.{LiveInterval}
+use Rattle.scan_rule.specs.scan_allocation.Allocation.{adds_virtual}
 
 -- the function stays as it is: fewer than two scratch registers are free, added code names a virtual register, or there would be more slots and stack
 -- objects than a function may have

@@ -7,8 +7,8 @@ use Rattle.pass_trait.specs.declared.loss.Loss.{Loss}
 use Rattle.pass_trait.specs.Change.{change}
 use Rattle.pass_trait.specs.Sizes.{greatest_number}
 use Rattle.pass_trait.specs.Steps.{KeepsStep}
-use Rattle.spill_proof.specs.Kept.{AreTaken}
-use Rattle.scan_intervals.specs.declared.interval.LiveInterval.{LiveInterval}
+use Rattle.scan_rule.specs.spill_proof.Kept.{AreTaken}
+use Rattle.scan_rule.specs.scan_intervals.declared.interval.LiveInterval.{LiveInterval}
 use Rattle.scan_slots.specs.Choice.{homes_left, settling_of, settled_whole}
 use Rattle.scan_slots.specs.Rule.{AreLeft}
 use Rattle.scan_slots.specs.Step.{settle_step}

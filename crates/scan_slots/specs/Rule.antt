@@ -2,10 +2,10 @@
 use Rattle.std.specs.Prelude.{◌≡◌, ℕ, List, Bool}
 use Rattle.mir_func.specs.Function.{Function}
 use Rattle.pass_trait.specs.Code.{CodeRule}
-use Rattle.scan_intervals.specs.declared.interval.LiveInterval.{LiveInterval}
-use Rattle.scan_intervals.specs.Liveness.{Decides, at_starts}
-use Rattle.scan_intervals.specs.Points.{points_of}
-use Rattle.scan_intervals.specs.Intervals.{AreIntervals}
+use Rattle.scan_rule.specs.scan_intervals.declared.interval.LiveInterval.{LiveInterval}
+use Rattle.scan_rule.specs.scan_intervals.Liveness.{Decides, at_starts}
+use Rattle.scan_rule.specs.scan_intervals.Points.{points_of}
+use Rattle.scan_rule.specs.scan_intervals.Intervals.{AreIntervals}
 use Rattle.scan_slots.specs.Choice.{settled}
 
 -- the intervals of a function's virtual registers

@@ -8,9 +8,9 @@ use Rattle.pass_trait.specs.Rule.{Rule, StandsAt}
 use Rattle.pass_trait.specs.Sizes.{greatest_number}
 use Rattle.pass_trait.specs.Steps.{PassStep}
 use Rattle.spill_code.specs.Rewrite.{slot_of}
-use Rattle.spill_debug.specs.Lost.{LosesScratch}
-use Rattle.spill_proof.specs.Step.{AsksForHome, number_at}
-use Rattle.scan_intervals.specs.declared.interval.LiveInterval.{LiveInterval}
+use Rattle.scan_rule.specs.spill_debug.Lost.{LosesScratch}
+use Rattle.scan_rule.specs.spill_proof.Step.{AsksForHome, number_at}
+use Rattle.scan_rule.specs.scan_intervals.declared.interval.LiveInterval.{LiveInterval}
 use Rattle.scan_slots.specs.Choice.{homes_left, settling_of}
 use Rattle.scan_slots.specs.Rule.{AreLeft, IsSettled}
 

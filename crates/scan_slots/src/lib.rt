@@ -3,4 +3,8 @@
 //! start, so nothing is stored there.
 #![tactic(auto)]
 
+pub use scan_rule::{
+    scan_allocation_crate as scan_allocation_crate, scan_intervals_crate as scan_intervals_crate,
+};
+
 pub mod laws;

@@ -22,7 +22,7 @@ use Rattle.mir_func.specs.Successors.{pos_in}
 use Rattle.mir_func.proofs.Ways.{IsDown}
 use Rattle.sem_mir.specs.InitialState.{first_of}
 use Rattle.sem_mir.specs.Live.{Defines, KindDefines}
-use Rattle.pass_trait.specs.Causes.{Comes, begins, goes_on as comes_on}
+use Rattle.dce_stale.specs.pass_trait.Causes.{Comes, begins, goes_on as comes_on}
 use Rattle.pass_liveness.proofs.Edges.{Stays, down_edge, out_edge}
 use Rattle.pass_liveness.proofs.Paths.{next_of}
 use Rattle.dce_stale.proofs.Exact.{and_true, drop_at}

@@ -6,7 +6,7 @@ use Rattle.std.proofs.lemmas.Bool.{cases_eq, cases_lt, eq-eqb, ne_eqb, eqb-true,
 use Rattle.rv64_instr.specs.declared.place.Place.{Place}
 use Rattle.rv64_instr.specs.declared.place.Place.TheVariants.{Register, Slot, Const}
 use Rattle.pass_liveness.specs.Sets.{is_place}
-use Rattle.scan_allocation.specs.Coloring.{now_by, now}
+use Rattle.scan_choice.specs.scan_allocation.Coloring.{now_by, now}
 use Rattle.scan_choice.specs.Given.{given_by}
 use Rattle.scan_stale.specs.Flow.{Places, takes_place, taken_by, is_unset}
 use Rattle.scan_stale.specs.Written.{AreReal}

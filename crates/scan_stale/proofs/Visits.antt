@@ -20,7 +20,7 @@ use Rattle.mir_func.specs.Successors.{pos_in}
 use Rattle.mir_func.proofs.Ways.{IsOut}
 use Rattle.sem_mir.specs.InitialState.{first_of}
 use Rattle.sem_mir.specs.Live.{Defines}
-use Rattle.pass_trait.specs.Causes.{Comes, begins, goes_on as comes_on}
+use Rattle.dce_stale.specs.pass_trait.Causes.{Comes, begins, goes_on as comes_on}
 use Rattle.dataflow.specs.Fixpoint.{Visited}
 use Rattle.pass_liveness.specs.Index.{index_in}
 use Rattle.pass_liveness.specs.Sets.{has}

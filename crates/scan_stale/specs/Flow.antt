@@ -17,8 +17,8 @@ use Rattle.mir_func.specs.Exits.{exit_of}
 use Rattle.mir_func.specs.Graph.{Fetch, Here, EndOfBlock, Outside, Program, Edge}
 use Rattle.mir_func.proofs.Ways.{IsOut}
 use Rattle.sem_mir.specs.Live.{Defines}
-use Rattle.pass_trait.specs.Causes.{Comes}
-use Rattle.scan_allocation.specs.Coloring.{now}
+use Rattle.dce_stale.specs.pass_trait.Causes.{Comes}
+use Rattle.scan_choice.specs.scan_allocation.Coloring.{now}
 
 -- a set of places, as a test
 abbrev pub Places : Type 0

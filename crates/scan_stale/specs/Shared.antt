@@ -4,7 +4,7 @@ use Rattle.rv64_instr.specs.declared.place.Place.{Place}
 use Rattle.rv64_instr.specs.declared.place.Place.TheVariants.{Register, Slot, Const}
 use Rattle.rv64_instr.specs.DefsAndUses.{caller_saved}
 use Rattle.pass_liveness.specs.Sets.{has}
-use Rattle.scan_allocation.specs.Coloring.{now}
+use Rattle.scan_choice.specs.scan_allocation.Coloring.{now}
 use Rattle.scan_choice.specs.Given.{given_by}
 use Rattle.scan_stale.specs.Flow.{Places, taken_by}
 use Rattle.scan_stale.specs.Written.{AreReal}

@@ -5,6 +5,9 @@
 //! except over back edges. Within a block it is computed item by item, with the same transfer step.
 #![tactic(auto)]
 
+pub use scan_choice as scan_choice_crate;
+pub use scan_choice::scan_liveness_crate as scan_liveness_crate;
+
 pub mod places;
 mod solve;
 pub mod stale;

@@ -6,7 +6,7 @@ ghost use Rattle.rv64_instr.specs.declared.place.Place.{Place};
 ghost use Rattle.rv64_instr.specs.declared.place.Place.TheVariants.{Register};
 ghost use Rattle.rv64_instr.specs.DefsAndUses.{caller_saved};
 ghost use Rattle.pass_liveness.specs.Sets.{has, is_place};
-ghost use Rattle.scan_allocation.specs.Coloring.{now};
+ghost use Rattle.scan_choice.specs.scan_allocation.Coloring.{now};
 ghost use Rattle.scan_choice.specs.Given.{given_by};
 ghost use Rattle.scan_stale.specs.Flow.{taken_by};
 ghost use Rattle.scan_stale.specs.Shared.{is_sharing};

@@ -1,14 +1,14 @@
 -- What code does to places that two runs hold alike.
 use Rattle.std.proofs.Common.{◌≡◌, ◌⊎◌, inl, inr, ℕ, List, Option, Some, None, Bool, true, false, refl, sym, ◌∙◌}
-use Rattle.rv64_instr.specs.declared.place.Place.{Place}
-use Rattle.rv64_instr.specs.declared.operand.Operand.{Operand}
-use Rattle.rv64_instr.specs.Instruction.{Instruction}
-use Rattle.rv64_instr.specs.Row.{row_of}
-use Rattle.rv64_instr.specs.LocationEffects.{is_pure, uses_of, defines_of}
-use Rattle.mir_func.specs.declared.variable.VarId.{VarId}
-use Rattle.sem_mir.specs.State.{Core}
-use Rattle.sem_mir.specs.Step.{act, numbered}
-use Rattle.sem_mir.specs.Effects.{held_in, EndAlike, FallsInto, SameWorld, AreHeldAlike}
+use Rattle.sem_simulation.specs.rv64_instr.declared.place.Place.{Place}
+use Rattle.sem_simulation.specs.rv64_instr.declared.operand.Operand.{Operand}
+use Rattle.sem_simulation.specs.rv64_instr.Instruction.{Instruction}
+use Rattle.sem_simulation.specs.rv64_instr.Row.{row_of}
+use Rattle.sem_simulation.specs.rv64_instr.LocationEffects.{is_pure, uses_of, defines_of}
+use Rattle.sem_simulation.specs.mir_func.declared.variable.VarId.{VarId}
+use Rattle.sem_simulation.specs.sem_mir.State.{Core}
+use Rattle.sem_simulation.specs.sem_mir.Step.{act, numbered}
+use Rattle.sem_simulation.specs.sem_mir.Effects.{held_in, EndAlike, FallsInto, SameWorld, AreHeldAlike}
 use Rattle.sem_mir.proofs.Effects.{told_by}
 use Rattle.sem_mir.proofs.Outcomes.{alike_weaker}
 use Rattle.sem_mir.proofs.Parts.{effects_hold}

@@ -1,19 +1,19 @@
 -- What items do to two runs that are alike.
 use Rattle.std.proofs.Common.{◌≡◌, ℕ, Option, Some, None, Bool, true, false, cond, nat_eq, slice_get, refl, ap, ◌∙◌, subst}
-use Rattle.rv64_instr.specs.declared.place.Place.{Place}
-use Rattle.rv64_instr.specs.declared.place.Place.TheVariants.{Register, Slot, Const}
-use Rattle.rv64_instr.specs.Instruction.{Instruction}
-use Rattle.rv64_instr.specs.Row.{row_of}
-use Rattle.rv64_instr.specs.LocationEffects.{is_pure, is_call, uses_of}
-use Rattle.mir_func.specs.declared.variable.VarId.{VarId}
-use Rattle.mir_func.specs.declared.variable.MarkValue.{MarkValue}
-use Rattle.mir_func.specs.declared.variable.MarkValue.TheVariants.{Nothing, Constant, At, Pair}
-use Rattle.mir_func.specs.declared.item.ItemKind.{ItemKind}
-use Rattle.mir_func.specs.declared.item.ItemKind.TheVariants.{Code, Mark, Phi}
-use Rattle.mir_func.specs.Graph.{Program}
-use Rattle.sem_mir.specs.State.{Core, updated}
-use Rattle.sem_mir.specs.Step.{act, numbered, seen, defined, place_value, mark_value, part_of, do_item}
-use Rattle.sem_mir.specs.Effects.{held_in, EndAlike, FallsInto}
+use Rattle.sem_simulation.specs.rv64_instr.declared.place.Place.{Place}
+use Rattle.sem_simulation.specs.rv64_instr.declared.place.Place.TheVariants.{Register, Slot, Const}
+use Rattle.sem_simulation.specs.rv64_instr.Instruction.{Instruction}
+use Rattle.sem_simulation.specs.rv64_instr.Row.{row_of}
+use Rattle.sem_simulation.specs.rv64_instr.LocationEffects.{is_pure, is_call, uses_of}
+use Rattle.sem_simulation.specs.mir_func.declared.variable.VarId.{VarId}
+use Rattle.sem_simulation.specs.mir_func.declared.variable.MarkValue.{MarkValue}
+use Rattle.sem_simulation.specs.mir_func.declared.variable.MarkValue.TheVariants.{Nothing, Constant, At, Pair}
+use Rattle.sem_simulation.specs.mir_func.declared.item.ItemKind.{ItemKind}
+use Rattle.sem_simulation.specs.mir_func.declared.item.ItemKind.TheVariants.{Code, Mark, Phi}
+use Rattle.sem_simulation.specs.mir_func.Graph.{Program}
+use Rattle.sem_simulation.specs.sem_mir.State.{Core, updated}
+use Rattle.sem_simulation.specs.sem_mir.Step.{act, numbered, seen, defined, place_value, mark_value, part_of, do_item}
+use Rattle.sem_simulation.specs.sem_mir.Effects.{held_in, EndAlike, FallsInto}
 use Rattle.sem_mir.proofs.Told.{Below}
 use Rattle.sem_agreement.specs.Agreement.{AgreeOn, DebugLessDef, Alike, GenDefs, KillDefs, HeldAfter, NumbersHeld, ValueHeld, PlaceHeld, Depends}
 use Rattle.sem_agreement.specs.Laws.{ItemsAreAlike}

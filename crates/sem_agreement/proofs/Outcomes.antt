@@ -1,20 +1,20 @@
 -- What code and items leave alone, and how two outcomes are put together.
 use Rattle.std.proofs.Common.{◌≡◌, ℕ, List, Option, Some, None, Bool, true, false, refl, ap, ◌∙◌}
-use Rattle.rv64_instr.specs.declared.place.Place.{Place}
-use Rattle.rv64_instr.specs.declared.place.Place.TheVariants.{Register, Slot, Const}
-use Rattle.rv64_instr.specs.declared.operand.Operand.{Operand}
-use Rattle.rv64_instr.specs.Instruction.{Instruction}
-use Rattle.rv64_instr.specs.Row.{Row, row_of}
-use Rattle.rv64_instr.specs.LocationEffects.{is_call, defines_of}
-use Rattle.mir_func.specs.declared.item.ItemKind.{ItemKind}
-use Rattle.mir_func.specs.declared.item.ItemKind.TheVariants.{Code, Mark, Phi}
-use Rattle.mir_func.specs.declared.variable.VarId.{VarId}
-use Rattle.mir_func.specs.Sound.{number_of}
-use Rattle.mir_func.specs.Graph.{Program}
-use Rattle.sem_mir.specs.State.{Core}
-use Rattle.sem_mir.specs.Step.{Outcome, Falls, Goes, Gives, Traps, Asks, Breaks, act, with_core, numbered, do_item}
-use Rattle.sem_mir.specs.Effects.{held_in, OnCore, EndAlike, FallsInto}
-use Rattle.sem_mir.specs.Live.{KindDefines}
+use Rattle.sem_simulation.specs.rv64_instr.declared.place.Place.{Place}
+use Rattle.sem_simulation.specs.rv64_instr.declared.place.Place.TheVariants.{Register, Slot, Const}
+use Rattle.sem_simulation.specs.rv64_instr.declared.operand.Operand.{Operand}
+use Rattle.sem_simulation.specs.rv64_instr.Instruction.{Instruction}
+use Rattle.sem_simulation.specs.rv64_instr.Row.{Row, row_of}
+use Rattle.sem_simulation.specs.rv64_instr.LocationEffects.{is_call, defines_of}
+use Rattle.sem_simulation.specs.mir_func.declared.item.ItemKind.{ItemKind}
+use Rattle.sem_simulation.specs.mir_func.declared.item.ItemKind.TheVariants.{Code, Mark, Phi}
+use Rattle.sem_simulation.specs.mir_func.declared.variable.VarId.{VarId}
+use Rattle.sem_simulation.specs.mir_func.Sound.{number_of}
+use Rattle.sem_simulation.specs.mir_func.Graph.{Program}
+use Rattle.sem_simulation.specs.sem_mir.State.{Core}
+use Rattle.sem_simulation.specs.sem_mir.Step.{Outcome, Falls, Goes, Gives, Traps, Asks, Breaks, act, with_core, numbered, do_item}
+use Rattle.sem_simulation.specs.sem_mir.Effects.{held_in, OnCore, EndAlike, FallsInto}
+use Rattle.sem_simulation.specs.sem_mir.Live.{KindDefines}
 use Rattle.sem_mir.proofs.Effects.{told_by, act_apart}
 use Rattle.sem_mir.proofs.Outcomes.{alike_with}
 use Rattle.sem_mir.proofs.Parts.{effects_hold}

@@ -1,10 +1,10 @@
 -- What items do to pairs and marks of two runs of which the second tells no more.
 use Rattle.std.proofs.Common.{◌≡◌, ℕ, List, ◌∷◌, Option, Some, None, Bool, true, false, cond, nat_eq, slice_get, refl, sym, ap, ◌∙◌, subst, eqb-true}
-use Rattle.rv64_instr.specs.declared.operand.Operand.{Operand}
-use Rattle.mir_func.specs.declared.variable.VarId.{VarId}
-use Rattle.mir_func.specs.Variables.{is_same, overlaps}
-use Rattle.sem_mir.specs.State.{Core, updated, assigned, content}
-use Rattle.sem_mir.specs.Step.{seen, defined, given, numbered, part_of}
+use Rattle.sem_simulation.specs.rv64_instr.declared.operand.Operand.{Operand}
+use Rattle.sem_simulation.specs.mir_func.declared.variable.VarId.{VarId}
+use Rattle.sem_simulation.specs.mir_func.Variables.{is_same, overlaps}
+use Rattle.sem_simulation.specs.sem_mir.State.{Core, updated, assigned, content}
+use Rattle.sem_simulation.specs.sem_mir.Step.{seen, defined, given, numbered, part_of}
 use Rattle.sem_mir.proofs.Told.{Below}
 use Rattle.sem_agreement.specs.Agreement.{DebugLessDef}
 use Rattle.sem_agreement.proofs.Outcomes.{TellsAs}

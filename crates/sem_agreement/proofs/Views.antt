@@ -1,19 +1,19 @@
 -- From what items do to the words of the laws on lists of items.
 use Rattle.std.proofs.Common.{◌≡◌, ℕ, Option, Some, None, Bool, true, false, cond, refl, sym}
-use Rattle.rv64_instr.specs.declared.place.Place.{Place}
-use Rattle.rv64_instr.specs.Row.{Row, Loads, LoadsSlot, Unfit, row_of}
-use Rattle.rv64_instr.specs.DefsAndUses.{reads}
-use Rattle.rv64_instr.specs.LocationEffects.{is_pure, is_call}
-use Rattle.rv64_instr.specs.Arithmetic.{load_width}
-use Rattle.mir_func.specs.declared.item.Item.{Item}
-use Rattle.mir_func.specs.declared.item.ItemKind.{ItemKind}
-use Rattle.mir_func.specs.declared.item.ItemKind.TheVariants.{Code, Mark, Phi}
-use Rattle.mir_func.specs.Graph.{Program}
-use Rattle.sem_mir.specs.State.{Core}
-use Rattle.sem_mir.specs.Step.{Outcome, Falls, Goes, Gives, Traps, Asks, Breaks, act, does, are_written, with_core, numbered, slot_loaded}
-use Rattle.sem_mir.specs.Step.{do_item, is_fault, address_at}
-use Rattle.sem_mir.specs.Align.{is_code}
-use Rattle.sem_mir.specs.Effects.{EndAlike, FallsInto}
+use Rattle.sem_simulation.specs.rv64_instr.declared.place.Place.{Place}
+use Rattle.sem_simulation.specs.rv64_instr.Row.{Row, Loads, LoadsSlot, Unfit, row_of}
+use Rattle.sem_simulation.specs.rv64_instr.DefsAndUses.{reads}
+use Rattle.sem_simulation.specs.rv64_instr.LocationEffects.{is_pure, is_call}
+use Rattle.sem_simulation.specs.rv64_instr.Arithmetic.{load_width}
+use Rattle.sem_simulation.specs.mir_func.declared.item.Item.{Item}
+use Rattle.sem_simulation.specs.mir_func.declared.item.ItemKind.{ItemKind}
+use Rattle.sem_simulation.specs.mir_func.declared.item.ItemKind.TheVariants.{Code, Mark, Phi}
+use Rattle.sem_simulation.specs.mir_func.Graph.{Program}
+use Rattle.sem_simulation.specs.sem_mir.State.{Core}
+use Rattle.sem_simulation.specs.sem_mir.Step.{Outcome, Falls, Goes, Gives, Traps, Asks, Breaks, act, does, are_written, with_core, numbered, slot_loaded}
+use Rattle.sem_simulation.specs.sem_mir.Step.{do_item, is_fault, address_at}
+use Rattle.sem_simulation.specs.sem_mir.Align.{is_code}
+use Rattle.sem_simulation.specs.sem_mir.Effects.{EndAlike, FallsInto}
 use Rattle.sem_simulation.specs.InPlace.{FallsOrTraps}
 use Rattle.sem_simulation.specs.MatchStates.{ShowsSame, Does, DoBoth}
 use Rattle.sem_agreement.specs.Agreement.{Alike}

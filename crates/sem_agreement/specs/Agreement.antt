@@ -1,19 +1,19 @@
 -- Agreement of two states on a set of locations, of which the second may have fewer debug values.
 use Rattle.std.specs.Prelude.{◌≡◌, ◌⊎◌, ℕ, Option, Some, None, true, false, slice_get}
-use Rattle.rv64_instr.specs.declared.place.Place.{Place}
-use Rattle.rv64_instr.specs.declared.place.Place.TheVariants.{Register}
-use Rattle.rv64_instr.specs.Instruction.{Instruction}
-use Rattle.rv64_instr.specs.Row.{row_of}
-use Rattle.rv64_instr.specs.LocationEffects.{is_call, uses_of, defines_of}
-use Rattle.mir_func.specs.declared.item.ItemKind.{ItemKind}
-use Rattle.mir_func.specs.declared.item.ItemKind.TheVariants.{Code, Mark, Phi}
-use Rattle.mir_func.specs.declared.variable.VarId.{VarId}
-use Rattle.mir_func.specs.declared.variable.MarkValue.{MarkValue}
-use Rattle.mir_func.specs.declared.variable.MarkValue.TheVariants.{Nothing, Constant, At, Pair}
-use Rattle.mir_func.specs.Graph.{Program}
-use Rattle.sem_mir.specs.State.{Core, assigned}
-use Rattle.sem_mir.specs.Step.{defined, pair_value}
-use Rattle.sem_mir.specs.Effects.{held_in, SameWorld}
+use Rattle.sem_simulation.specs.rv64_instr.declared.place.Place.{Place}
+use Rattle.sem_simulation.specs.rv64_instr.declared.place.Place.TheVariants.{Register}
+use Rattle.sem_simulation.specs.rv64_instr.Instruction.{Instruction}
+use Rattle.sem_simulation.specs.rv64_instr.Row.{row_of}
+use Rattle.sem_simulation.specs.rv64_instr.LocationEffects.{is_call, uses_of, defines_of}
+use Rattle.sem_simulation.specs.mir_func.declared.item.ItemKind.{ItemKind}
+use Rattle.sem_simulation.specs.mir_func.declared.item.ItemKind.TheVariants.{Code, Mark, Phi}
+use Rattle.sem_simulation.specs.mir_func.declared.variable.VarId.{VarId}
+use Rattle.sem_simulation.specs.mir_func.declared.variable.MarkValue.{MarkValue}
+use Rattle.sem_simulation.specs.mir_func.declared.variable.MarkValue.TheVariants.{Nothing, Constant, At, Pair}
+use Rattle.sem_simulation.specs.mir_func.Graph.{Program}
+use Rattle.sem_simulation.specs.sem_mir.State.{Core, assigned}
+use Rattle.sem_simulation.specs.sem_mir.Step.{defined, pair_value}
+use Rattle.sem_simulation.specs.sem_mir.Effects.{held_in, SameWorld}
 
 -- the cores agree on memory, script and events, and each of these locations has the same content in both,
 -- or is unwritten in both

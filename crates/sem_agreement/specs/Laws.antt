@@ -1,18 +1,18 @@
 -- The effect of items on two states that agree.
 use Rattle.std.specs.Prelude.{◌≡◌, ℕ, Option, Some, None, true}
-use Rattle.rv64_instr.specs.declared.place.Place.{Place}
-use Rattle.rv64_instr.specs.Instruction.{Instruction}
-use Rattle.rv64_instr.specs.Row.{row_of}
-use Rattle.rv64_instr.specs.LocationEffects.{is_pure}
-use Rattle.mir_func.specs.declared.item.ItemKind.{ItemKind}
-use Rattle.mir_func.specs.declared.item.ItemKind.TheVariants.{Code, Mark, Phi}
-use Rattle.mir_func.specs.declared.variable.VarId.{VarId}
-use Rattle.mir_func.specs.declared.variable.MarkValue.{MarkValue}
-use Rattle.mir_func.specs.declared.variable.MarkValue.TheVariants.{Nothing}
-use Rattle.mir_func.specs.Graph.{Program}
-use Rattle.sem_mir.specs.State.{Core}
-use Rattle.sem_mir.specs.Step.{do_item}
-use Rattle.sem_mir.specs.Effects.{EndAlike, FallsInto}
+use Rattle.sem_simulation.specs.rv64_instr.declared.place.Place.{Place}
+use Rattle.sem_simulation.specs.rv64_instr.Instruction.{Instruction}
+use Rattle.sem_simulation.specs.rv64_instr.Row.{row_of}
+use Rattle.sem_simulation.specs.rv64_instr.LocationEffects.{is_pure}
+use Rattle.sem_simulation.specs.mir_func.declared.item.ItemKind.{ItemKind}
+use Rattle.sem_simulation.specs.mir_func.declared.item.ItemKind.TheVariants.{Code, Mark, Phi}
+use Rattle.sem_simulation.specs.mir_func.declared.variable.VarId.{VarId}
+use Rattle.sem_simulation.specs.mir_func.declared.variable.MarkValue.{MarkValue}
+use Rattle.sem_simulation.specs.mir_func.declared.variable.MarkValue.TheVariants.{Nothing}
+use Rattle.sem_simulation.specs.mir_func.Graph.{Program}
+use Rattle.sem_simulation.specs.sem_mir.State.{Core}
+use Rattle.sem_simulation.specs.sem_mir.Step.{do_item}
+use Rattle.sem_simulation.specs.sem_mir.Effects.{EndAlike, FallsInto}
 use Rattle.sem_agreement.specs.Agreement.{Alike, Depends, HeldAfter, KillDefs}
 
 -- the laws of items of two programs, from cores that agree

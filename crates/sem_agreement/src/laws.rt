@@ -1,7 +1,7 @@
 //! Laws of agreement of two states: each is the contract of a function with an empty body.
 
 ghost use Rattle.std.specs.Prelude.{ℕ};
-ghost use Rattle.rv64_instr.specs.declared.place.Place.{Place};
+ghost use Rattle.sem_simulation.specs.rv64_instr.declared.place.Place.{Place};
 ghost use Rattle.sem_agreement.specs.Laws.{ItemsAreAlike};
 
 /// An agreement of two states.

@@ -3,7 +3,9 @@ use Rattle.std.proofs.Common.{◌≡◌, ℕ, List, ◌∷◌, ◌++◌, Option,
 use Rattle.std.specs.Prelude.{◌+◌, ◌||◌, not, is_some, nat_eq, Result, Ok, Err, IfOk}
 use Rattle.std.specs.List.{list_all, list_any}
 use Rattle.std.specs.Map.{lookup}
-use Rattle.rv64_instr.specs.DefsAndUses.{reads, way_reads, callee_reads, caller_saved}
+use Rattle.rv64_instr.specs.DefsAndUses.{reads, way_reads, caller_saved}
+use Rattle.rv64_instr.specs.Decoded.{ShowsCallee}
+use Rattle.rv64_instr.specs.declared.decoded.Callee as decoded
 use Rattle.rv64_instr.specs.LocationEffects.{is_outgoing}
 use Rattle.rv64_instr.specs.declared.start.CallResult.{CallResult}
 use Rattle.rv64_instr.specs.declared.start.CallTarget.{CallTarget}
@@ -153,25 +155,25 @@ calls_takes m new o call a h took = record {
   leads = leads_below (Calls call) o (λ p. refl) took.leads;
 }
 
-pub calls_ok : (m new : InterpreterState) (uses outgoing : List ℕ) (a : CallResult) →
-    ((call : CallSite) → callee_reads call.callee ++ call.args ≡ uses → AreWritten m true (Calls call)) →
+pub calls_ok : (m new : InterpreterState) (callee : decoded.Callee) (operands : List Operand) (outgoing : List ℕ) (a : CallResult) →
+    ((call : CallSite) → ShowsCallee callee call.callee → call.args ≡ implicit_uses operands → AreWritten m true (Calls call)) →
     (r : Result Outcome AllocError) → IfOk r (λ o. Takes outgoing a o m new) →
-    IfOk r (λ o. (call : CallSite) → callee_reads call.callee ++ call.args ≡ uses → call.outgoing ≡ outgoing → Acts (Calls call) (Some a) o m new)
-calls_ok m new uses outgoing a h (Ok o) took = λ call same passes.
-    calls_takes m new o call a (h call same) (subst (λ (ns : List ℕ). Takes ns a o m new) (sym passes) took)
-calls_ok m new uses outgoing a h (Err x) took = took
+    IfOk r (λ o. (call : CallSite) → ShowsCallee callee call.callee → call.args ≡ implicit_uses operands → call.outgoing ≡ outgoing →
+    Acts (Calls call) (Some a) o m new)
+calls_ok m new callee operands outgoing a h (Ok o) took = λ call shows same passes.
+    calls_takes m new o call a (h call shows same) (subst (λ (ns : List ℕ). Takes ns a o m new) (sym passes) took)
+calls_ok m new callee operands outgoing a h (Err x) took = took
 
--- what a call reads is what its operands use implicitly, and so is what an ending reads. A call passes the slots that its operands name
-pub at_call_ok : (i : Instruction) (operands : List Operand) (call : CallSite) (answer : Option CallResult) (m new : InterpreterState) →
-    operands ≡ i.operands → row_of i ≡ Calls call → (x : Result Outcome AllocError) →
-    IfOk x (λ o. (k : CallSite) → callee_reads k.callee ++ k.args ≡ implicit_uses operands → k.outgoing ≡ outgoing_words operands →
+-- what a call passes is what its operands use implicitly, and so is what an ending reads. A call passes the slots that its operands name
+pub at_call_ok : (i : Instruction) (callee : decoded.Callee) (operands : List Operand) (call : CallSite) (answer : Option CallResult)
+    (m new : InterpreterState) → operands ≡ i.operands → row_of i ≡ Calls call → ShowsCallee callee call.callee → (x : Result Outcome AllocError) →
+    IfOk x (λ o. (k : CallSite) → ShowsCallee callee k.callee → k.args ≡ implicit_uses operands → k.outgoing ≡ outgoing_words operands →
     Acts (Calls k) answer o m new) →
     IfOk x (λ o. Acts (row_of i) answer o m new)
-at_call_ok i operands call answer m new w e (Ok o) h =
-    let same : callee_reads call.callee ++ call.args ≡ implicit_uses operands =
-    subst (λ (r : Row). AreImplicit i.operands r) e (implicit i) ∙ sym (ap implicit_uses w) in
-    at_row (row_of i) (Calls call) answer o m new e (h call same (outgoing_are i call e ∙ sym (ap outgoing_words w)))
-at_call_ok i operands call answer m new w e (Err x) h = h
+at_call_ok i callee operands call answer m new w e shows (Ok o) h =
+    let same : call.args ≡ implicit_uses operands = subst (λ (r : Row). AreImplicit i.operands r) e (implicit i) ∙ sym (ap implicit_uses w) in
+    at_row (row_of i) (Calls call) answer o m new e (h call shows same (outgoing_are i call e ∙ sym (ap outgoing_words w)))
+at_call_ok i callee operands call answer m new w e shows (Err x) h = h
 
 pub at_return : (i : Instruction) (operands : List Operand) (ending : Ending Callee) (answer : Option CallResult) (o : Outcome) (m new : InterpreterState) →
     operands ≡ i.operands → row_of i ≡ Returns ending →

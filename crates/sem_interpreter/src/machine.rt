@@ -11,7 +11,7 @@ ghost use Rattle.mir_func.specs.Objects.{AreLaid};
 ghost use Rattle.mir_func.specs.Sound.{IsSoundObject};
 ghost use Rattle.sem_mir.specs.State.{Core};
 ghost use Rattle.sem_mir.specs.Step.{are_written, is_fault, loaded, object_address, put_in_memory};
-ghost use Rattle.rv64_instr.specs.Decoded.{ShowsBase};
+ghost use Rattle.rv64_instr.specs.Decoded.{ShowsBase, ShowsCallee};
 ghost use Rattle.rv64_instr.specs.Linked.{addresses_in, linked_value};
 ghost use Rattle.rv64_instr.specs.declared.symbol.LinkedAddress.{LinkedAddress};
 ghost use Rattle.sem_interpreter.specs.Acts.{Acts, AddressHolds, Does, InputHolds, IsBase, IsInput};
@@ -25,7 +25,7 @@ use crate::slots::Slots;
 use base_ids::function_ids::{BlockId, ObjectId, SlotId};
 use mir_func::object::{Object, area};
 use rv64_instr::arithmetic::{compute, extend, is_taken, load_width, store_width};
-use rv64_instr::decoded::{Base, Decoded, Input};
+use rv64_instr::decoded::{Base, Callee, Decoded, Input};
 use rv64_instr::instr::Instr;
 use rv64_instr::linked::linked_value;
 use rv64_instr::op::{BranchOp, LoadOp, RegisterOp, StoreOp};
@@ -110,7 +110,7 @@ impl InterpreterState {
             Decoded::StoresSlot(rs, n) => self.store_slot(rs, n),
             Decoded::Branches(op, a, b, target) => Ok(self.branch(op, a, b, target)),
             Decoded::Jumps(target) => Ok(Outcome::Goes(target)),
-            Decoded::Calls(_) => self.call(i.operands.as_slice(), answer),
+            Decoded::Calls(callee) => self.call(callee, i.operands.as_slice(), answer),
             Decoded::Returns(_) => Ok(self.finish(i.operands.as_slice())),
         }
     }
@@ -375,15 +375,17 @@ impl InterpreterState {
 
     fn call(
         &mut self,
+        callee: Callee,
         operands: &[Operand],
         answer: Option<&CallResult>,
     ) -> Result<Outcome, AllocError>
-        ensures ok { IfOk result (λ o. (call : CallSite) → callee_reads call.callee ++ call.args ≡ implicit_uses operands.now
+        ensures ok { IfOk result (λ o. (call : CallSite) → ShowsCallee callee call.callee
+            → call.args ≡ implicit_uses operands.now
             → call.outgoing ≡ outgoing_words operands.now
             → Acts (row.Calls call) (option_copied answer.entry) o self.old self.new) }
         ensures err { OnErr result (self.new ≡ self.old) }
     {
-        if !self.are_written(operands) {
+        if !self.may_call(callee, operands) {
             return Ok(Outcome::Faults);
         }
         match answer {
@@ -417,6 +419,25 @@ impl InterpreterState {
             Outcome::Returns
         } else {
             Outcome::Faults
+        }
+    }
+
+    /// Whether the registers of the callee and of the implicit uses, without x2, are written.
+    fn may_call(&self, callee: Callee, operands: &[Operand]) -> bool
+        ensures { (c : row.Callee) → ShowsCallee callee c → (s : Core) → MachineHolds self.now s
+            → result ≡ are_written s (callee_reads c ++ implicit_uses operands.now) }
+    {
+        self.is_known(callee) && self.are_written(operands)
+    }
+
+    /// Whether the callee's register is written.
+    fn is_known(&self, callee: Callee) -> bool
+        ensures { (c : row.Callee) → ShowsCallee callee c → (s : Core) → MachineHolds self.now s
+            → result ≡ are_written s (callee_reads c) }
+    {
+        match callee {
+            Callee::Named => true,
+            Callee::Held(r) => self.registers.read(r).is_some(),
         }
     }
 

@@ -2,11 +2,11 @@
 use Rattle.std.proofs.Common.{◌≡◌, ℕ, Option, Some, None, true, refl, inl, inr}
 use Rattle.std.specs.Prelude.{◌⊎◌}
 use Rattle.rv64_instr.specs.declared.place.Place.{Place}
-use Rattle.mir_func.specs.declared.debug_substitution.OperandPair.{OperandPair}
-use Rattle.mir_func.specs.declared.variable.VarId.{VarId}
-use Rattle.mir_func.specs.Function.{Function}
+use Rattle.sem_mir.specs.mir_func.declared.debug_substitution.OperandPair.{OperandPair}
+use Rattle.sem_mir.specs.mir_func.declared.variable.VarId.{VarId}
+use Rattle.sem_mir.specs.mir_func.Function.{Function}
 use Rattle.sem_mir.specs.State.{State}
-use Rattle.mir_func.specs.Graph.{program_of}
+use Rattle.sem_mir.specs.mir_func.Graph.{program_of}
 use Rattle.sem_machine.specs.Image.{CodeLine, Image, line_at}
 use Rattle.sem_machine.specs.Machine.{Machine, machine_start}
 use Rattle.sem_machine.specs.MachineStep.{Continues, does_at, machine_step, Comes, there, steps}

@@ -1,9 +1,9 @@
 -- Exact location lists: they name the wanted location, and none exactly if none is wanted.
 use Rattle.std.specs.Prelude.{◌↔◌, ℕ}
 use Rattle.rv64_instr.specs.declared.place.Place.{Place}
-use Rattle.mir_func.specs.declared.position.Pos.{Pos}
-use Rattle.mir_func.specs.declared.variable.VarId.{VarId}
-use Rattle.mir_func.specs.Graph.{Program}
+use Rattle.sem_mir.specs.mir_func.declared.position.Pos.{Pos}
+use Rattle.sem_mir.specs.mir_func.declared.variable.VarId.{VarId}
+use Rattle.sem_mir.specs.mir_func.Graph.{Program}
 use Rattle.sem_mir.specs.PreferredLocation.{IsPreferredLocation, NoneIsPreferred}
 
 -- location lists are exact for a function, of which `points` relates the address of each byte of code to that code's position: at

@@ -2,16 +2,16 @@
 use Rattle.std.specs.Prelude.{◌≡◌, ◌⊎◌, ℕ, List, ◌∷◌, Option, Some, false, true, All}
 use Rattle.rv64_instr.specs.declared.place.Place.{Place}
 use Rattle.rv64_instr.specs.Row.{way_leads_back}
-use Rattle.mir_func.specs.declared.debug_substitution.OperandPair.{OperandPair}
-use Rattle.mir_func.specs.declared.variable.VarId.{VarId}
-use Rattle.mir_func.specs.Function.{Function}
-use Rattle.mir_func.specs.Objects.{area_of}
-use Rattle.mir_func.specs.SoundFrame.{SAVED}
-use Rattle.mir_func.specs.Variables.{part_value}
+use Rattle.sem_mir.specs.mir_func.declared.debug_substitution.OperandPair.{OperandPair}
+use Rattle.sem_mir.specs.mir_func.declared.variable.VarId.{VarId}
+use Rattle.sem_mir.specs.mir_func.Function.{Function}
+use Rattle.sem_mir.specs.mir_func.Objects.{area_of}
+use Rattle.sem_mir.specs.mir_func.SoundFrame.{SAVED}
+use Rattle.sem_mir.specs.mir_func.Variables.{part_value}
 use Rattle.sem_mir.specs.State.{State, RunResult}
 use Rattle.sem_mir.specs.Step.{Returned, step}
-use Rattle.mir_func.specs.Graph.{Program, program_of}
-use Rattle.mir_func.specs.Positions.{position_of}
+use Rattle.sem_mir.specs.mir_func.Graph.{Program, program_of}
+use Rattle.sem_mir.specs.mir_func.Positions.{position_of}
 use Rattle.sem_mir.specs.InitialState.{first_of, IsInitialState}
 use Rattle.sem_mir.specs.Align.{waits_at, since_of, Since, Start, First, MatchesNext, FailsBefore, Tells}
 use Rattle.sem_machine.specs.Image.{CodeLine, Image, line_at}

@@ -1,11 +1,11 @@
 -- The headline covers every state that the machine reaches.
 use Rattle.std.specs.Prelude.{◌≡◌, ◌⊎◌, ℕ, Option, Some, true}
 use Rattle.rv64_instr.specs.declared.place.Place.{Place}
-use Rattle.mir_func.specs.declared.debug_substitution.OperandPair.{OperandPair}
-use Rattle.mir_func.specs.declared.variable.VarId.{VarId}
-use Rattle.mir_func.specs.Function.{Function}
+use Rattle.sem_mir.specs.mir_func.declared.debug_substitution.OperandPair.{OperandPair}
+use Rattle.sem_mir.specs.mir_func.declared.variable.VarId.{VarId}
+use Rattle.sem_mir.specs.mir_func.Function.{Function}
 use Rattle.sem_mir.specs.State.{State}
-use Rattle.mir_func.specs.Graph.{Program, program_of}
+use Rattle.sem_mir.specs.mir_func.Graph.{Program, program_of}
 use Rattle.sem_mir.specs.Align.{Since}
 use Rattle.sem_machine.specs.Image.{CodeLine, Image, line_at}
 use Rattle.sem_machine.specs.Machine.{Machine, machine_start}

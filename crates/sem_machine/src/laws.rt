@@ -2,7 +2,7 @@
 
 ghost use Rattle.std.specs.Prelude.{ℕ};
 ghost use Rattle.rv64_instr.specs.declared.place.Place.{Place};
-ghost use Rattle.mir_func.specs.declared.variable.VarId.{VarId};
+ghost use Rattle.sem_mir.specs.mir_func.declared.variable.VarId.{VarId};
 ghost use Rattle.sem_machine.specs.HeadlineLaws.{HeadlineReachesEveryStep};
 
 /// The location lists of a function.

@@ -3,15 +3,15 @@ use Rattle.std.proofs.Common.{◌≡◌, ℕ, ◌+◌, List, [], ◌∷◌, Opti
 use Rattle.mir_func.specs.declared.position.Pos.{Pos}
 use Rattle.mir_func.specs.declared.item.ItemKind.{ItemKind}
 use Rattle.mir_func.specs.declared.item.ItemKind.TheVariants.{Code, Mark, Phi}
-use Rattle.rv64_instr.specs.Row.{Row, Loads, Stores, LoadsSlot, Branches, Calls, Returns, Unfit, row_of}
-use Rattle.rv64_instr.specs.Arithmetic.{taken, load_width, store_width, extended}
-use Rattle.rv64_instr.specs.DefsAndUses.{reads}
+use Rattle.mir_func.specs.rv64_instr.Row.{Row, Loads, Stores, LoadsSlot, Branches, Calls, Returns, Unfit, row_of}
+use Rattle.mir_func.specs.rv64_instr.Arithmetic.{taken, load_width, store_width, extended}
+use Rattle.mir_func.specs.rv64_instr.DefsAndUses.{reads}
 use Rattle.sem_mir.specs.State.{State, Core, Reply, spelled, low_bytes, updated}
 use Rattle.sem_mir.specs.Step.{Went, Outcome, Falls, Goes, Gives, Traps, Asks, Breaks, moved, read, address_at, is_fault, part_of, set_register, saved}
 use Rattle.sem_mir.specs.Step.{exec_external_call, slot_loaded, does, act, are_written, numbered, with_core, mark_value, place_value, do_item, do_fetch, step}
 use Rattle.sem_mir.specs.Step.{called_at, passed, call_faults}
-use Rattle.rv64_instr.specs.LocationEffects.{is_call}
-use Rattle.rv64_instr.specs.declared.start.CallTarget.{CallTarget}
+use Rattle.mir_func.specs.rv64_instr.LocationEffects.{is_call}
+use Rattle.mir_func.specs.rv64_instr.declared.start.CallTarget.{CallTarget}
 use Rattle.sem_mir.proofs.Outcomes.{after_reply}
 use Rattle.mir_func.specs.Graph.{Program, Fetch, Here, EndOfBlock, Outside, below, block_start, Edge, FetchEdge, KindEdge, RowEdge, Leads, stay, go}
 

@@ -5,20 +5,20 @@ use Rattle.std.specs.Prelude.{not, ◌||◌}
 use Rattle.std.specs.List.{list_any}
 use Rattle.std.proofs.lemmas.Bool.{cases_eq}
 use Rattle.std.proofs.lemmas.Map.Made.{Contains-tail}
-use Rattle.rv64_instr.specs.declared.op.LoadOp.{LoadOp}
-use Rattle.rv64_instr.specs.declared.op.StoreOp.{StoreOp}
-use Rattle.rv64_instr.specs.declared.place.Place.{Place}
-use Rattle.rv64_instr.specs.declared.place.Place.TheVariants.{Register, Slot, Const}
-use Rattle.rv64_instr.specs.declared.symbol.Half.TheVariants.{Lower}
-use Rattle.rv64_instr.specs.Linked.{linked_value}
-use Rattle.rv64_instr.specs.Arithmetic.{computed, taken, load_width, store_width, extended}
-use Rattle.rv64_instr.specs.Row.{Row, Fixes, Moves, Sets, Addresses, Loads, Stores, LoadsSlot, StoresSlot, Branches, Jumps, Calls, Returns, Unfit}
-use Rattle.rv64_instr.specs.Row.{Callee, Named, Held, Way, Back, Tail, Never}
-use Rattle.rv64_instr.specs.Row.{Content, Number, PartOf}
-use Rattle.rv64_instr.specs.Row.{Base, PointedBy, ObjectAt, BesidePart}
-use Rattle.rv64_instr.specs.DefsAndUses.{caller_saved, base_reads, reads, sets, callee_reads, way_reads}
-use Rattle.rv64_instr.specs.declared.start.CallTarget.{CallTarget}
-use Rattle.rv64_instr.specs.declared.start.CallTarget.TheVariants.{Function, Address}
+use Rattle.mir_func.specs.rv64_instr.declared.op.LoadOp.{LoadOp}
+use Rattle.mir_func.specs.rv64_instr.declared.op.StoreOp.{StoreOp}
+use Rattle.mir_func.specs.rv64_instr.declared.place.Place.{Place}
+use Rattle.mir_func.specs.rv64_instr.declared.place.Place.TheVariants.{Register, Slot, Const}
+use Rattle.mir_func.specs.rv64_instr.declared.symbol.Half.TheVariants.{Lower}
+use Rattle.mir_func.specs.rv64_instr.Linked.{linked_value}
+use Rattle.mir_func.specs.rv64_instr.Arithmetic.{computed, taken, load_width, store_width, extended}
+use Rattle.mir_func.specs.rv64_instr.Row.{Row, Fixes, Moves, Sets, Addresses, Loads, Stores, LoadsSlot, StoresSlot, Branches, Jumps, Calls, Returns, Unfit}
+use Rattle.mir_func.specs.rv64_instr.Row.{Callee, Named, Held, Way, Back, Tail, Never}
+use Rattle.mir_func.specs.rv64_instr.Row.{Content, Number, PartOf}
+use Rattle.mir_func.specs.rv64_instr.Row.{Base, PointedBy, ObjectAt, BesidePart}
+use Rattle.mir_func.specs.rv64_instr.DefsAndUses.{caller_saved, base_reads, reads, sets, callee_reads, way_reads}
+use Rattle.mir_func.specs.rv64_instr.declared.start.CallTarget.{CallTarget}
+use Rattle.mir_func.specs.rv64_instr.declared.start.CallTarget.TheVariants.{Function, Address}
 use Rattle.mir_func.specs.declared.variable.VarId.{VarId}
 use Rattle.sem_mir.specs.State.{Reply, Core, content, updated, without, put, put_all, spelled, low_bytes, writes_frame}
 use Rattle.sem_mir.specs.Step.{Outcome, Falls, Goes, Traps, or_zero, read, input_value, base_value, address_at, is_fault, set_register, exec_external_call}
@@ -182,7 +182,7 @@ agree_put rd v q regs regs' h =
       same zero = refl
       same (suc k) = updated_same (suc k) (Some v) regs ∙ sym (updated_same (suc k) (Some v) regs')
 
-agree_all : (rs vs : List ℕ) (q : ℕ) (regs regs' : ℕ → Option ℕ) → ((Contains rs q → ⊥) → content regs q ≡ content regs' q) →
+pub agree_all : (rs vs : List ℕ) (q : ℕ) (regs regs' : ℕ → Option ℕ) → ((Contains rs q → ⊥) → content regs q ≡ content regs' q) →
     content (put_all rs vs regs) q ≡ content (put_all rs vs regs') q
 agree_all [] vs q regs regs' h = h (λ k. none k) where
   none : Contains [] q → ⊥

@@ -1,21 +1,20 @@
--- What a call reads and a return gives are the implicit uses of the operands.
+-- What a call passes and a return reads are the implicit uses of the operands.
 use Rattle.std.proofs.Common.{◌≡◌, ℕ, zero, suc, List, ◌∷◌, refl, ◌++◌, []}
-use Rattle.rv64_instr.specs.declared.op.Op.{Op}
-use Rattle.rv64_instr.specs.declared.op.Op.TheVariants.{Registers, Immediate, Lui, Branch, Load, Store, Copy}
-use Rattle.rv64_instr.specs.declared.op.Op.TheVariants.{PseudoBr, PseudoCall, PseudoRet, PseudoCallIndirect}
-use Rattle.rv64_instr.specs.declared.op.Op.TheVariants.{PseudoTail, PseudoTailIndirect, NoReturnCall, NoReturnCallIndirect}
-use Rattle.rv64_instr.specs.declared.op.ImmediateOp.{ImmediateOp}
-use Rattle.rv64_instr.specs.declared.op.ImmediateOp.TheVariants.{Addi}
-use Rattle.rv64_instr.specs.declared.operand.Operand.{Operand}
-use Rattle.rv64_instr.specs.declared.operand.Operand.TheVariants.{Def, Use, Imm, Slot, Object, Block, Symbol}
-use Rattle.rv64_instr.specs.Instruction.{Instruction}
-use Rattle.rv64_instr.specs.Arithmetic.{word}
-use Rattle.rv64_instr.specs.Row.{Row, Calls, Returns, row_by, row_of, immediate_row, object_row, move_row, implicit_uses, outgoing_words, held_call}
-use Rattle.rv64_instr.specs.Row.{held_tail, held_gone}
-use Rattle.rv64_instr.specs.DefsAndUses.{way_reads, callee_reads}
+use Rattle.mir_func.specs.rv64_instr.declared.op.Op.{Op}
+use Rattle.mir_func.specs.rv64_instr.declared.op.Op.TheVariants.{Registers, Immediate, Lui, Branch, Load, Store, Copy}
+use Rattle.mir_func.specs.rv64_instr.declared.op.Op.TheVariants.{PseudoBr, PseudoCall, PseudoRet, PseudoCallIndirect}
+use Rattle.mir_func.specs.rv64_instr.declared.op.Op.TheVariants.{PseudoTail, PseudoTailIndirect, NoReturnCall, NoReturnCallIndirect}
+use Rattle.mir_func.specs.rv64_instr.declared.op.ImmediateOp.{ImmediateOp}
+use Rattle.mir_func.specs.rv64_instr.declared.op.ImmediateOp.TheVariants.{Addi}
+use Rattle.mir_func.specs.rv64_instr.declared.operand.Operand.{Operand}
+use Rattle.mir_func.specs.rv64_instr.declared.operand.Operand.TheVariants.{Def, Use, Imm, Slot, Object, Block, Symbol}
+use Rattle.mir_func.specs.rv64_instr.Instruction.{Instruction}
+use Rattle.mir_func.specs.rv64_instr.Arithmetic.{word}
+use Rattle.mir_func.specs.rv64_instr.Row.{Row, Calls, Returns, row_by, row_of, immediate_row, object_row, move_row, implicit_uses, held_tail, held_gone}
+use Rattle.mir_func.specs.rv64_instr.DefsAndUses.{way_reads}
 
 abbrev pub AreImplicit : List Operand → Row → Type 0
-AreImplicit operands (Calls call) = callee_reads call.callee ++ call.args ≡ implicit_uses operands
+AreImplicit operands (Calls call) = call.args ≡ implicit_uses operands
 AreImplicit operands (Returns ending) = way_reads ending.way ++ ending.values ≡ implicit_uses operands
 AreImplicit operands _ = Unit {0}
 
@@ -27,10 +26,6 @@ immediate operands op rd a n = tt
 copies : (operands : List Operand) (rd rs : ℕ) → AreImplicit operands (move_row rd rs)
 copies operands rd zero = tt
 copies operands rd (suc r) = tt
-
-held_call_reads : (operands : List Operand) (xs outgoing : List ℕ) → xs ≡ implicit_uses operands → AreImplicit operands (held_call xs outgoing)
-held_call_reads operands [] outgoing e = tt
-held_call_reads operands (r ∷ xs) outgoing e = e
 
 held_tail_reads : (operands : List Operand) (xs : List ℕ) → xs ≡ implicit_uses operands → AreImplicit operands (held_tail xs)
 held_tail_reads operands [] e = tt
@@ -59,7 +54,7 @@ by_op Copy (Def rd ∷ Use rs ∷ rest) = copies (Def rd ∷ Use rs ∷ rest) rd
 by_op PseudoBr (Block target ∷ rest) = tt
 by_op PseudoCall (Symbol name ∷ rest) = refl
 by_op PseudoRet rest = refl
-by_op PseudoCallIndirect rest = held_call_reads rest (implicit_uses rest) (outgoing_words rest) refl
+by_op PseudoCallIndirect (Use r ∷ rest) = refl
 by_op PseudoTail (Symbol name ∷ rest) = refl
 by_op PseudoTailIndirect rest = held_tail_reads rest (implicit_uses rest) refl
 by_op NoReturnCall (Symbol name ∷ rest) = refl

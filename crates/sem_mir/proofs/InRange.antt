@@ -3,25 +3,25 @@ use Rattle.std.proofs.Common.{◌≡◌, ℕ, zero, suc, ◌+◌, ◌*◌, ◌/�
 use Rattle.std.proofs.Common.{cond, nat_eq, refl, sym, ap, ◌∙◌, subst, inl, inr, pow-suc, arith}
 use Rattle.std.proofs.lemmas.Bool.{cases_lt}
 use Rattle.std.proofs.lemmas.List.Elements.{All-head, All-tail}
-use Rattle.rv64_instr.specs.declared.op.Op.{Op}
-use Rattle.rv64_instr.specs.declared.op.Op.TheVariants.{Registers, Immediate, Lui, Branch, Load, Store, Copy}
-use Rattle.rv64_instr.specs.declared.op.Op.TheVariants.{PseudoBr, PseudoCall, PseudoRet, PseudoCallIndirect}
-use Rattle.rv64_instr.specs.declared.op.Op.TheVariants.{PseudoTail, PseudoTailIndirect, NoReturnCall, NoReturnCallIndirect}
-use Rattle.rv64_instr.specs.declared.op.ImmediateOp.{ImmediateOp}
-use Rattle.rv64_instr.specs.declared.op.ImmediateOp.TheVariants.{Addi}
-use Rattle.rv64_instr.specs.declared.op.LoadOp.{LoadOp}
-use Rattle.rv64_instr.specs.declared.op.LoadOp.TheVariants.{Lb, Lh, Lw, Ld, Lbu, Lhu, Lwu}
-use Rattle.rv64_instr.specs.declared.operand.Operand.{Operand}
-use Rattle.rv64_instr.specs.declared.operand.Operand.TheVariants.{Def, Use, Imm, Slot as SlotOperand, Object, Part, Block, Symbol}
-use Rattle.rv64_instr.specs.declared.place.Place.{Place}
-use Rattle.rv64_instr.specs.declared.place.Place.TheVariants.{Register, Slot, Const}
-use Rattle.rv64_instr.specs.Instruction.{Instruction}
-use Rattle.rv64_instr.specs.Arithmetic.{word, computed, extended, load_width, store_width, taken}
-use Rattle.rv64_instr.specs.Row.{Row, Fixes, Moves, Sets, Addresses, Loads, Stores, LoadsSlot, StoresSlot, Branches, Jumps, Calls, Returns, Unfit, row_of}
-use Rattle.rv64_instr.specs.Row.{row_by, move_row, immediate_row, object_row}
-use Rattle.rv64_instr.specs.Row.{Input, Content, Number, PartOf}
-use Rattle.rv64_instr.specs.Row.{ObjectAt, held_call, held_tail, held_gone, implicit_uses, outgoing_words}
-use Rattle.rv64_instr.specs.DefsAndUses.{caller_saved, reads}
+use Rattle.mir_func.specs.rv64_instr.declared.op.Op.{Op}
+use Rattle.mir_func.specs.rv64_instr.declared.op.Op.TheVariants.{Registers, Immediate, Lui, Branch, Load, Store, Copy}
+use Rattle.mir_func.specs.rv64_instr.declared.op.Op.TheVariants.{PseudoBr, PseudoCall, PseudoRet, PseudoCallIndirect}
+use Rattle.mir_func.specs.rv64_instr.declared.op.Op.TheVariants.{PseudoTail, PseudoTailIndirect, NoReturnCall, NoReturnCallIndirect}
+use Rattle.mir_func.specs.rv64_instr.declared.op.ImmediateOp.{ImmediateOp}
+use Rattle.mir_func.specs.rv64_instr.declared.op.ImmediateOp.TheVariants.{Addi}
+use Rattle.mir_func.specs.rv64_instr.declared.op.LoadOp.{LoadOp}
+use Rattle.mir_func.specs.rv64_instr.declared.op.LoadOp.TheVariants.{Lb, Lh, Lw, Ld, Lbu, Lhu, Lwu}
+use Rattle.mir_func.specs.rv64_instr.declared.operand.Operand.{Operand}
+use Rattle.mir_func.specs.rv64_instr.declared.operand.Operand.TheVariants.{Def, Use, Imm, Slot as SlotOperand, Object, Part, Block, Symbol}
+use Rattle.mir_func.specs.rv64_instr.declared.place.Place.{Place}
+use Rattle.mir_func.specs.rv64_instr.declared.place.Place.TheVariants.{Register, Slot, Const}
+use Rattle.mir_func.specs.rv64_instr.Instruction.{Instruction}
+use Rattle.mir_func.specs.rv64_instr.Arithmetic.{word, computed, extended, load_width, store_width, taken}
+use Rattle.mir_func.specs.rv64_instr.Row.{Row, Fixes, Moves, Sets, Addresses, Loads, Stores, LoadsSlot, StoresSlot, Branches, Jumps, Calls, Returns, Unfit, row_of}
+use Rattle.mir_func.specs.rv64_instr.Row.{row_by, move_row, immediate_row, object_row}
+use Rattle.mir_func.specs.rv64_instr.Row.{Input, Content, Number, PartOf}
+use Rattle.mir_func.specs.rv64_instr.Row.{ObjectAt, held_tail, held_gone, implicit_uses}
+use Rattle.mir_func.specs.rv64_instr.DefsAndUses.{caller_saved, reads}
 use Rattle.mir_func.specs.declared.debug_substitution.OperandPair.{OperandPair}
 use Rattle.mir_func.specs.declared.object.Object.{Object as StackObject}
 use Rattle.mir_func.specs.declared.position.Pos.{Pos}
@@ -37,8 +37,8 @@ use Rattle.sem_mir.specs.Step.{Next, Went, Returned, Faulted, Waits, Lost, Outco
 use Rattle.sem_mir.specs.Step.{base_value, address_at, is_fault, part_of, set_register, exec_external_call}
 use Rattle.sem_mir.specs.Step.{slot_loaded, saved, does, are_written, act, seen, called_at, passed, call_faults}
 use Rattle.sem_mir.specs.Step.{defined, given, numbered, with_core, place_value, pair_value, mark_value, do_item, do_fetch, moved, step, after, run}
-use Rattle.rv64_instr.specs.LocationEffects.{is_call}
-use Rattle.rv64_instr.specs.declared.start.CallTarget.{CallTarget}
+use Rattle.mir_func.specs.rv64_instr.LocationEffects.{is_call}
+use Rattle.mir_func.specs.rv64_instr.declared.start.CallTarget.{CallTarget}
 use Rattle.mir_func.specs.Graph.{Program, Fetch, Here, EndOfBlock, Outside, below, block_start}
 use Rattle.sem_mir.specs.InitialState.{IsInitialState}
 use Rattle.sem_mir.specs.Effects.{OnCore}
@@ -75,10 +75,6 @@ move_in_range : (rd rs : ℕ) → RowInRange (move_row rd rs)
 move_in_range rd zero = omega arith
 move_in_range rd (suc r) = tt
 
-held_call_in_range : (xs outgoing : List ℕ) → RowInRange (held_call xs outgoing)
-held_call_in_range [] outgoing = tt
-held_call_in_range (r ∷ xs) outgoing = tt
-
 held_tail_in_range : (xs : List ℕ) → RowInRange (held_tail xs)
 held_tail_in_range [] = tt
 held_tail_in_range (r ∷ xs) = tt
@@ -107,7 +103,7 @@ by_op Copy (Def rd ∷ Use rs ∷ rest) = move_in_range rd rs
 by_op PseudoBr (Block target ∷ rest) = tt
 by_op PseudoCall (Symbol name ∷ rest) = tt
 by_op PseudoRet rest = tt
-by_op PseudoCallIndirect rest = held_call_in_range (implicit_uses rest) (outgoing_words rest)
+by_op PseudoCallIndirect (Use r ∷ rest) = tt
 by_op PseudoTail (Symbol name ∷ rest) = tt
 by_op PseudoTailIndirect rest = held_tail_in_range (implicit_uses rest)
 by_op NoReturnCall (Symbol name ∷ rest) = tt

@@ -12,3 +12,5 @@ pub mod Told
 pub mod Reading
 pub mod Range
 pub mod InRange
+pub use Rattle.mir_func.proofs as mir_func
+pub use Rattle.mir_func.proofs.rv64_instr as rv64_instr

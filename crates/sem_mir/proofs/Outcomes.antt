@@ -2,8 +2,8 @@
 use Rattle.std.proofs.Common.{◌≡◌, ℕ, List, ◌∷◌, Bool, true, false, cond, refl, sym, ap, ◌∙◌, subst}
 use Rattle.mir_func.specs.declared.position.Pos.{Pos}
 use Rattle.mir_func.specs.declared.item.Item.{Item}
-use Rattle.rv64_instr.specs.DefsAndUses.{caller_saved}
-use Rattle.rv64_instr.specs.declared.start.CallTarget.{CallTarget}
+use Rattle.mir_func.specs.rv64_instr.DefsAndUses.{caller_saved}
+use Rattle.mir_func.specs.rv64_instr.declared.start.CallTarget.{CallTarget}
 use Rattle.sem_mir.specs.State.{State, Core, Reply, Called, put_all, without, written, RunResult}
 use Rattle.sem_mir.specs.Step.{Went, Returned, Faulted, Outcome, Falls, Goes, Gives, Traps, Asks, Breaks, moved, with_core, do_item, do_fetch, step}
 use Rattle.mir_func.specs.Graph.{Program, Fetch, Here, EndOfBlock, below, block_start}

@@ -1,22 +1,23 @@
 -- What the parts of an instruction tell of its runs.
-use Rattle.std.proofs.Common.{◌≡◌, ℕ, ℤ, zero, suc, ◌^◌, List, [], ◌∷◌, Contains, Option, Some, None, Bool, true, false, cond, ◌&&◌, ◌||◌, nat_eq, is_some}
+use Rattle.std.proofs.Common.{◌≡◌, ℕ, ℤ, zero, suc, ◌^◌, List, [], ◌∷◌, ◌++◌, Contains, Option, Some, None, Bool, true, false, cond, ◌&&◌, ◌||◌, nat_eq, is_some}
 use Rattle.std.proofs.Common.{eq-eqb, lt-ltb, le-ltb, refl, sym, ap, ◌∙◌, subst, inl, inr, ◌⊎◌, arith}
 use Rattle.std.specs.List.{list_any}
 use Rattle.std.proofs.lemmas.Bool.{cases_eq, cases_lt, eqb-true, or_left, or_right}
 use Rattle.std.proofs.lemmas.Map.Made.{Contains-tail}
-use Rattle.rv64_instr.specs.declared.operand.Operand.{Operand}
-use Rattle.rv64_instr.specs.declared.operand.Operand.TheVariants.{ImplicitUse}
-use Rattle.rv64_instr.specs.declared.place.Place.{Place}
-use Rattle.rv64_instr.specs.declared.place.Place.TheVariants.{Register, Slot, Const}
-use Rattle.rv64_instr.specs.Instruction.{Instruction}
-use Rattle.rv64_instr.specs.Arithmetic.{word, signed, load_width, extended}
-use Rattle.rv64_instr.specs.Row.{Row, Fixes, Moves, Sets, Addresses, Loads, Stores, LoadsSlot, StoresSlot, Branches, Jumps, Calls, Returns, Unfit, row_of}
-use Rattle.rv64_instr.specs.Row.{implicit_uses}
-use Rattle.rv64_instr.specs.Row.{Content, Number, PartOf}
-use Rattle.rv64_instr.specs.Row.{PointedBy, ObjectAt, BesidePart}
-use Rattle.rv64_instr.specs.DefsAndUses.{reads, sets}
-use Rattle.rv64_instr.specs.LocationEffects.{place_set, set_by, moved_by, constant_of, is_pure, is_call as calls, uses_of, defines_of, first_use, second_use}
-use Rattle.rv64_instr.specs.LocationEffects.{is_register, has_implicit_uses, is_implicit_use, is_outgoing, names_slot, slot_read, is_call}
+use Rattle.mir_func.specs.rv64_instr.declared.operand.Operand.{Operand}
+use Rattle.mir_func.specs.rv64_instr.declared.operand.Operand.TheVariants.{ImplicitUse, GlobalRegisters}
+use Rattle.mir_func.specs.rv64_instr.declared.place.Place.{Place}
+use Rattle.mir_func.specs.rv64_instr.declared.place.Place.TheVariants.{Register, Slot, Const}
+use Rattle.mir_func.specs.rv64_instr.Instruction.{Instruction}
+use Rattle.mir_func.specs.rv64_instr.Arithmetic.{word, signed, load_width, extended}
+use Rattle.mir_func.specs.rv64_instr.Row.{Row, Fixes, Moves, Sets, Addresses, Loads, Stores, LoadsSlot, StoresSlot, Branches, Jumps, Calls, Returns, Unfit, row_of}
+use Rattle.mir_func.specs.rv64_instr.Row.{implicit_uses, Callee, Named, Held}
+use Rattle.mir_func.specs.rv64_instr.Row.{Content, Number, PartOf}
+use Rattle.mir_func.specs.rv64_instr.Row.{PointedBy, ObjectAt, BesidePart}
+use Rattle.mir_func.specs.rv64_instr.DefsAndUses.{reads, sets, callee_reads}
+use Rattle.mir_func.specs.rv64_instr.LocationEffects.{place_set, set_by, moved_by, constant_of, is_pure, is_call as calls, uses_of, defines_of, first_use, second_use}
+use Rattle.mir_func.specs.rv64_instr.LocationEffects.{is_register, has_implicit_uses, is_implicit_use, is_outgoing, names_slot, slot_read, is_call}
+use Rattle.mir_func.specs.rv64_instr.LocationEffects.{is_global_register, callee_place}
 use Rattle.rv64_instr.proofs.Passed.{passed_by}
 use Rattle.mir_func.specs.declared.item.ItemKind.{ItemKind}
 use Rattle.mir_func.specs.declared.item.ItemKind.TheVariants.{Code, Mark, Phi}
@@ -68,6 +69,7 @@ implicit_any q (ImplicitUse r ∷ os) k = by_test (λ h. or_right (nat_eq r q) (
         | inl e ↦ or_left (nat_eq r q) (list_any (is_implicit_use q) os) (eq-eqb r q e)
         | inr ne ↦ later (Contains-tail r (implicit_uses os) q ne k)
       ]
+implicit_any q (GlobalRegisters ∷ os) k = or_right (is_global_register q) (list_any (is_implicit_use q) os) (implicit_any q os k)
 implicit_any q (_ ∷ os) k = implicit_any q os k
 
 only_one : (r q : ℕ) → Contains (r ∷ []) q → nat_eq q r ≡ true
@@ -75,6 +77,16 @@ only_one r q k = let h = in_any q (r ∷ []) k in by_test (nat_eq q r) h where
   by_test : (z : Bool) → (z || false) ≡ true → z ≡ true
   by_test true e = refl
   by_test false e = e
+
+-- the callee's register is one that is read, and so are those behind it
+callee_used : (q : ℕ) (callee : Callee) (rest : List ℕ) (b : Bool) → (Contains rest q → b ≡ true) → Contains (callee_reads callee ++ rest) q →
+    (is_register q (callee_place callee) || false || b) ≡ true
+callee_used q (Named name) rest b h k = h k
+callee_used q (Held r) rest b h k =
+    elim (cases_eq r q) as (λ _. (nat_eq q r || false || b) ≡ true) [
+      | inl e ↦ rw (eq-eqb q r (sym e)) refl
+      | inr ne ↦ or_right (nat_eq q r || false) b (h (Contains-tail r rest q ne k))
+    ]
 
 -- the registers that a row reads are those of its operands
 register_used : (os : List Operand) (r : Row) (q : ℕ) → AreImplicit os r → Contains (reads r) q →
@@ -107,7 +119,8 @@ register_used os (Branches op a b t) q h k =
       | inl e ↦ rw (eq-eqb q a (sym e)) refl
       | inr ne ↦ rw (only_one b q (Contains-tail a (b ∷ []) q ne k)) (or_left (nat_eq q a || true) false (or_right (nat_eq q a) true refl))
     ]
-register_used os (Calls call) q h k = implicit_any q os (subst (λ (qs : List ℕ). Contains qs q) h k)
+register_used os (Calls call) q h k =
+    callee_used q call.callee call.args (list_any (is_implicit_use q) os) (λ m. implicit_any q os (subst (λ (qs : List ℕ). Contains qs q) h m)) k
 register_used os (Returns ending) q h k = implicit_any q os (subst (λ (qs : List ℕ). Contains qs q) h k)
 register_used os _ q h k = absurd (omega (arith, k.1))
 

@@ -4,16 +4,16 @@ use Rattle.std.proofs.Common.{w32, lt_of_le_of_lt, lt-ltb, le-ltb, div-le_self, 
 use Rattle.std.specs.Int.{cast_signed, int_shr, from_bool}
 use Rattle.std.proofs.lemmas.Bool.{cases_lt}
 use Rattle.std.proofs.lemmas.Nat.{or_lt, xor_lt, and_le_l}
-use Rattle.rv64_instr.specs.declared.op.RegisterOp.{RegisterOp}
-use Rattle.rv64_instr.specs.declared.op.LoadOp.{LoadOp}
-use Rattle.rv64_instr.specs.declared.op.LoadOp.TheVariants.{Lb, Lh, Lw}
-use Rattle.rv64_instr.specs.declared.op.RegisterOp.TheVariants.{Add, Sub, Sll, Slt, Sltu, Xor, Srl, Sra, Or, And, Addw, Subw, Sllw, Srlw, Sraw}
-use Rattle.rv64_instr.specs.declared.symbol.Symbol.{Symbol}
-use Rattle.rv64_instr.specs.declared.symbol.LinkedAddress.{LinkedAddress}
-use Rattle.rv64_instr.specs.declared.symbol.Half.{Half}
-use Rattle.rv64_instr.specs.declared.symbol.Half.TheVariants.{Upper, Lower}
-use Rattle.rv64_instr.specs.Linked.{linked_value}
-use Rattle.rv64_instr.specs.Arithmetic.{word, unsigned, signed, extend32, computed, extended}
+use Rattle.mir_func.specs.rv64_instr.declared.op.RegisterOp.{RegisterOp}
+use Rattle.mir_func.specs.rv64_instr.declared.op.LoadOp.{LoadOp}
+use Rattle.mir_func.specs.rv64_instr.declared.op.LoadOp.TheVariants.{Lb, Lh, Lw}
+use Rattle.mir_func.specs.rv64_instr.declared.op.RegisterOp.TheVariants.{Add, Sub, Sll, Slt, Sltu, Xor, Srl, Sra, Or, And, Addw, Subw, Sllw, Srlw, Sraw}
+use Rattle.mir_func.specs.rv64_instr.declared.symbol.Symbol.{Symbol}
+use Rattle.mir_func.specs.rv64_instr.declared.symbol.LinkedAddress.{LinkedAddress}
+use Rattle.mir_func.specs.rv64_instr.declared.symbol.Half.{Half}
+use Rattle.mir_func.specs.rv64_instr.declared.symbol.Half.TheVariants.{Upper, Lower}
+use Rattle.mir_func.specs.rv64_instr.Linked.{linked_value}
+use Rattle.mir_func.specs.rv64_instr.Arithmetic.{word, unsigned, signed, extend32, computed, extended}
 
 -- 64 bits
 abbrev pub IsWord : ℕ → Type 0

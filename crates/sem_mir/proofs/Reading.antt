@@ -3,7 +3,8 @@ use Rattle.std.proofs.Common.{◌≡◌, ℕ, zero, suc, ◌+◌, ◌*◌, ◌<�
 use Rattle.std.proofs.Common.{None, Bool, true, false, cond, nat_eq, eq-eqb, ne_eqb, refl, sym, ap, ◌∙◌, subst, inl, inr, ◌⊎◌, arith}
 use Rattle.std.proofs.lemmas.Bool.{eqb-true}
 use Rattle.std.proofs.lemmas.List.Elements.{All-weaker, All-contains, All-contains_itself}
-use Rattle.rv64_instr.specs.Row.{Row, Branches, Jumps, Returns, Unfit, row_of}
+use Rattle.mir_func.specs.rv64_instr.Instruction.{is_volatile_load}
+use Rattle.mir_func.specs.rv64_instr.Row.{Row, Branches, Jumps, Returns, Unfit, row_of}
 use Rattle.mir_func.specs.declared.debug_substitution.OperandPair.{OperandPair}
 use Rattle.mir_func.specs.declared.position.Pos.{Pos}
 use Rattle.mir_func.specs.declared.position.Origin.{Origin}
@@ -22,7 +23,7 @@ use Rattle.sem_mir.specs.Align.{Count, ByItems, ByEnds, sync_point_at, AnyOrigin
 use Rattle.sem_mir.specs.InitialState.{first_of}
 use Rattle.sem_mir.specs.Follow.{IsWithin, IsSource, IsRead, Among, none, same, OnRow, GoesTo, IsEnd, SameEnd, KindsEndAlike}
 use Rattle.sem_mir.specs.InitialState.{IsInitialState}
-use Rattle.sem_mir.specs.Follow.{InOrder, rank, next_rank, HasClass, KindFits, MarkFits, Shape}
+use Rattle.sem_mir.specs.Follow.{InOrder, rank, next_rank, HasClass, KindFits, ItemIsVolatile, IsVolatile, StaysVolatile, MarkFits, Shape}
 use Rattle.sem_mir.specs.Follow.{Follows, HasWholeEnds}
 use Rattle.sem_mir.proofs.Sources.{in_step_any}
 use Rattle.sem_mir.proofs.Told.{SeesLess, Beside, goes_beside, agrees_beside, tells_itself}
@@ -260,6 +261,11 @@ module _ (blocks : List Block) (read : IsRead blocks) where
     kind_fits i (Phi x m) e p source_end f = tt
     kind_fits i (Code c m) e p source_end f = subst (HasClass (row_of c)) (sym f) (subst (Rattle.sem_mir.specs.Follow.ItemHasClass (row_of c)) (sym e) refl)
 
+    volatile_fits : (i : Item) (k : ItemKind) → i.kind ≡ k → (p : Pos) → src.fetch p ≡ Here i → StaysVolatile src k (Kept p)
+    volatile_fits i (Mark v m) e p f = tt
+    volatile_fits i (Phi x m) e p f = tt
+    volatile_fits i (Code c m) e p f = subst (IsVolatile (is_volatile_load c)) (sym f) (subst (ItemIsVolatile (is_volatile_load c)) (sym e) refl)
+
     kept_fits : (k : ItemKind) (p : Pos) → MarkFits k (Kept p)
     kept_fits (Code c n) p = tt
     kept_fits (Mark v Nothing) p = tt
@@ -280,6 +286,15 @@ module _ (blocks : List Block) (read : IsRead blocks) where
         item_front b.items k b.source_end f.rest i g in
         subst (KindFits src i.kind b.source_end) (sym o) (kind_fits i i.kind refl (record { block = b.id; item = k }) b.source_end at)
 
+    item_stays : (b : Block) → Contains blocks b → (i : Item) → Contains b.items i → StaysVolatile src i.kind i.origin
+    item_stays b m i (k, lt, e) =
+        let g = index_of b.items k i lt e in
+        let o = All-contains OwnItems blocks b read.items m k i g in
+        let f = found blocks read.apart b m in
+        let at : src.fetch (record { block = b.id; item = k }) ≡ Here i = ap (λ (x : List Block). fetch_in x k) f.at ∙
+        item_front b.items k b.source_end f.rest i g in
+        subst (StaysVolatile src i.kind) (sym o) (volatile_fits i i.kind refl (record { block = b.id; item = k }) at)
+
     shape : Shape blocks blocks src fp
     shape = record {
       among = among_self blocks;
@@ -290,6 +305,9 @@ module _ (blocks : List Block) (read : IsRead blocks) where
           omega arith in z))) blocks read.items;
       items = All-weaker (Contains blocks) (λ (b : Block). All (λ i. KindFits src i.kind b.source_end i.origin) b.items)
           (λ b m. All-weaker (Contains b.items) (λ (i : Item). KindFits src i.kind b.source_end i.origin) (item_fits b m) b.items (All-contains_itself b.items))
+          blocks (All-contains_itself blocks);
+      volatile = All-weaker (Contains blocks) (λ (b : Block). All (λ i. StaysVolatile src i.kind i.origin) b.items)
+          (λ b m. All-weaker (Contains b.items) (λ (i : Item). StaysVolatile src i.kind i.origin) (item_stays b m) b.items (All-contains_itself b.items))
           blocks (All-contains_itself blocks);
       stores = λ b m p i pb f s o. (let bad : Kept p ≡ Before (record { block = b.id; item = b.source_end }) =
           sym ((is_source false resolve).items p i f) ∙ o in cc);

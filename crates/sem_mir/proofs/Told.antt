@@ -1,9 +1,9 @@
 -- A run that is another one but for what it tells: it tells less, where marks see less.
 use Rattle.std.proofs.Common.{◌≡◌, ℕ, List, ◌∷◌, Option, Some, None, Bool, true, false, cond, nat_eq, slice_get, refl, sym, ap, ◌∙◌, subst}
-use Rattle.rv64_instr.specs.declared.operand.Operand.{Operand}
-use Rattle.rv64_instr.specs.declared.place.Place.{Place}
-use Rattle.rv64_instr.specs.declared.place.Place.TheVariants.{Register, Slot, Const}
-use Rattle.rv64_instr.specs.Row.{Row, row_of}
+use Rattle.mir_func.specs.rv64_instr.declared.operand.Operand.{Operand}
+use Rattle.mir_func.specs.rv64_instr.declared.place.Place.{Place}
+use Rattle.mir_func.specs.rv64_instr.declared.place.Place.TheVariants.{Register, Slot, Const}
+use Rattle.mir_func.specs.rv64_instr.Row.{Row, row_of}
 use Rattle.mir_func.specs.declared.debug_substitution.OperandPair.{OperandPair}
 use Rattle.mir_func.specs.declared.variable.VarId.{VarId}
 use Rattle.mir_func.specs.declared.variable.MarkValue.{MarkValue}
@@ -14,7 +14,7 @@ use Rattle.sem_mir.specs.State.{State, Core, updated, assigned}
 use Rattle.mir_func.specs.Variables.{is_same, overlaps}
 use Rattle.sem_mir.specs.Step.{Went, Outcome, Falls, Goes, Gives, Traps, Asks, Breaks, moved, with_core, act, seen, defined, given, numbered, place_value}
 use Rattle.sem_mir.specs.Step.{pair_value, mark_value, part_of, do_item, do_fetch, step}
-use Rattle.rv64_instr.specs.LocationEffects.{is_call}
+use Rattle.mir_func.specs.rv64_instr.LocationEffects.{is_call}
 use Rattle.mir_func.specs.Graph.{Program, Fetch, Here, EndOfBlock, Outside}
 use Rattle.sem_mir.specs.Align.{Agrees}
 use Rattle.sem_mir.specs.Effects.{EndAlike}

@@ -1,6 +1,6 @@
 -- Matching of runs: which states of the source match the states of a function, by the origins of items alone.
 use Rattle.std.specs.Prelude.{◌≡◌, ◌⊎◌, ℕ, Option, Some, None, Bool, true, false}
-use Rattle.rv64_instr.specs.Row.{Row, Jumps, row_of}
+use Rattle.mir_func.specs.rv64_instr.Row.{Row, Jumps, row_of}
 use Rattle.mir_func.specs.declared.position.Pos.{Pos}
 use Rattle.mir_func.specs.declared.position.Origin.{Origin}
 use Rattle.mir_func.specs.declared.position.Origin.TheVariants.{Kept, Before}

@@ -1,12 +1,12 @@
 -- What the locations of an instruction say of each of its runs: those that it defines, uses and
 -- moves, and the constant that it sets.
 use Rattle.std.specs.Prelude.{◌≡◌, ◌⊎◌, ℕ, ℤ, Option, Some, true, false}
-use Rattle.rv64_instr.specs.declared.place.Place.{Place}
-use Rattle.rv64_instr.specs.declared.place.Place.TheVariants.{Register, Slot, Const}
-use Rattle.rv64_instr.specs.Instruction.{Instruction}
-use Rattle.rv64_instr.specs.Arithmetic.{word}
-use Rattle.rv64_instr.specs.Row.{row_of}
-use Rattle.rv64_instr.specs.LocationEffects.{set_by, moved_by, constant_of, is_pure, is_call, uses_of, defines_of}
+use Rattle.mir_func.specs.rv64_instr.declared.place.Place.{Place}
+use Rattle.mir_func.specs.rv64_instr.declared.place.Place.TheVariants.{Register, Slot, Const}
+use Rattle.mir_func.specs.rv64_instr.Instruction.{Instruction}
+use Rattle.mir_func.specs.rv64_instr.Arithmetic.{word}
+use Rattle.mir_func.specs.rv64_instr.Row.{row_of}
+use Rattle.mir_func.specs.rv64_instr.LocationEffects.{set_by, moved_by, constant_of, is_pure, is_call, uses_of, defines_of}
 use Rattle.sem_mir.specs.State.{Core, content}
 use Rattle.sem_mir.specs.Step.{Outcome, Falls, Goes, Gives, Traps, Asks, Breaks, act}
 

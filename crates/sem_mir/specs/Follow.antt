@@ -1,8 +1,9 @@
 -- When a function follows a source, that is, refines it: its shape, and its runs from every start state.
-use Rattle.std.specs.Prelude.{◌≡◌, ◌⊎◌, ℕ, ◌+◌, ◌*◌, ◌<◌, ◌≤◌, List, [], ◌∷◌, length, All, Contains, Option, Some, true, false, slice_get}
-use Rattle.rv64_instr.specs.Row.{Row, Branches, Jumps, Returns, row_of}
-use Rattle.rv64_instr.specs.View.{Literal, OfRegister, OfSlot, Write, SetsRegister, SetsSlot, write_of, Class, Branch, Return, class_of}
-use Rattle.rv64_instr.specs.LocationEffects.{IsSlotStore}
+use Rattle.std.specs.Prelude.{◌≡◌, ◌⊎◌, Bool, ℕ, ◌+◌, ◌*◌, ◌<◌, ◌≤◌, List, [], ◌∷◌, length, All, Contains, Option, Some, true, false, slice_get}
+use Rattle.mir_func.specs.rv64_instr.Row.{Row, Branches, Jumps, Returns, row_of}
+use Rattle.mir_func.specs.rv64_instr.View.{Literal, OfRegister, OfSlot, Write, SetsRegister, SetsSlot, write_of, Class, Branch, Return, class_of}
+use Rattle.mir_func.specs.rv64_instr.LocationEffects.{IsSlotStore}
+use Rattle.mir_func.specs.rv64_instr.Instruction.{is_volatile_load}
 use Rattle.mir_func.specs.declared.position.Pos.{Pos}
 use Rattle.mir_func.specs.declared.position.Origin.{Origin}
 use Rattle.mir_func.specs.declared.position.Origin.TheVariants.{Kept, Before}
@@ -62,6 +63,21 @@ abbrev pub KindFits : Program → ItemKind → (source_end : ℕ) → Origin →
 KindFits src (Code c k) source_end o = RowFits src (row_of c) source_end o
 KindFits src (Mark v m) source_end o = Unit {0}
 KindFits src (Phi p k) source_end o = Unit {0}
+
+-- the item is code, and is a volatile load or not
+abbrev pub ItemIsVolatile : Bool → ItemKind → Type 0
+ItemIsVolatile volatile (Code c k) = is_volatile_load c ≡ volatile
+ItemIsVolatile volatile _ = ⊥
+
+-- what the source has at a position is code, and is a volatile load or not
+abbrev pub IsVolatile : Bool → Fetch → Type 0
+IsVolatile volatile (Here i) = ItemIsVolatile volatile i.kind
+IsVolatile volatile _ = ⊥
+
+-- kept code is a volatile load exactly if the source's is
+abbrev pub StaysVolatile : Program → ItemKind → Origin → Type 0
+StaysVolatile src (Code c k) (Kept p) = IsVolatile (is_volatile_load c) (src.fetch p)
+StaysVolatile src _ o = Unit {0}
 
 -- an added debug value is undef
 abbrev pub MarkFits : ItemKind → Origin → Type 0
@@ -138,6 +154,7 @@ pub record Shape (src f : List Block) (srcp fp : Program) : Type 0 where
       (p : Pos) × (i : Item) × (fp.fetch p ≡ Here i) × OnRow (GoesTo (first_of src)) i.kind
   pub order : All (λ b. InOrder b.id 0 b.items) f
   pub items : All (λ b. All (λ i. KindFits srcp i.kind b.source_end i.origin) b.items) f
+  pub volatile : All (λ b. All (λ i. StaysVolatile srcp i.kind i.origin) b.items) f
   -- a slot store that is added before a block's end has other code earlier in the block or reachable from it: so a cycle of jumps
   -- alone stores to no slot
   pub stores : (b : Block) → Contains f b → (p : Pos) (i : Item) → p.block ≡ b.id → fp.fetch p ≡ Here i → OnRow IsSlotStore i.kind →

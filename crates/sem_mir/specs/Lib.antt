@@ -8,3 +8,5 @@ pub mod PreferredLocation
 pub mod Live
 pub mod Effects
 pub mod Itself
+pub use Rattle.mir_func.specs as mir_func
+pub use Rattle.mir_func.specs.rv64_instr as rv64_instr

@@ -1,7 +1,7 @@
 -- The place that is required for a variable: the preferred one of those that have its value.
 use Rattle.std.specs.Prelude.{◌≡◌, pos, negsuc, ◌<◌, Some}
-use Rattle.rv64_instr.specs.declared.place.Place.{Place}
-use Rattle.rv64_instr.specs.declared.place.Place.TheVariants.{Register, Slot, Const}
+use Rattle.mir_func.specs.rv64_instr.declared.place.Place.{Place}
+use Rattle.mir_func.specs.rv64_instr.declared.place.Place.TheVariants.{Register, Slot, Const}
 use Rattle.mir_func.specs.declared.position.Pos.{Pos}
 use Rattle.mir_func.specs.declared.variable.VarId.{VarId}
 use Rattle.mir_func.specs.Graph.{Program}

@@ -2,9 +2,9 @@
 use Rattle.std.specs.Prelude.{◌≡◌, ◌<◌, length, All, ℕ, zero, suc, ◌+◌, ◌*◌, ◌/◌, ◌%◌, ◌^◌, List, [], ◌∷◌, Option, Some, None, Bool, false, cond, ◌&&◌, ◌||◌}
 use Rattle.std.specs.Prelude.{nat_eq, nat_lt, nat_le}
 use Rattle.std.specs.List.{list_any}
-use Rattle.rv64_instr.specs.declared.start.CallTarget.{CallTarget}
-use Rattle.rv64_instr.specs.Row.{Ending}
-use Rattle.rv64_instr.specs.declared.symbol.Symbol.{Symbol}
+use Rattle.mir_func.specs.rv64_instr.declared.start.CallTarget.{CallTarget}
+use Rattle.mir_func.specs.rv64_instr.Row.{Ending}
+use Rattle.mir_func.specs.rv64_instr.declared.symbol.Symbol.{Symbol}
 use Rattle.mir_func.specs.declared.position.Pos.{Pos}
 use Rattle.mir_func.specs.declared.variable.VarId.{VarId}
 use Rattle.mir_func.specs.Limits.{FRAME_ROOM}

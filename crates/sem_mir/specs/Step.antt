@@ -2,23 +2,23 @@
 use Rattle.std.specs.Prelude.{ℕ, ◌+◌, ◌-◌, ◌%◌, ◌^◌, zero, suc, List, [], ◌∷◌, ◌++◌, map, Option, Some, None, Bool, true, false, not, ◌||◌, cond}
 use Rattle.std.specs.Prelude.{nat_eq, is_some, slice_get}
 use Rattle.std.specs.List.{list_all}
-use Rattle.rv64_instr.specs.declared.op.LoadOp.{LoadOp}
-use Rattle.rv64_instr.specs.declared.op.StoreOp.{StoreOp}
-use Rattle.rv64_instr.specs.declared.operand.Operand.{Operand}
-use Rattle.rv64_instr.specs.declared.operand.Operand.TheVariants.{Def, ImplicitDef}
-use Rattle.rv64_instr.specs.declared.place.Place.{Place}
-use Rattle.rv64_instr.specs.declared.place.Place.TheVariants.{Register, Slot, Const}
-use Rattle.rv64_instr.specs.declared.symbol.Half.TheVariants.{Lower}
-use Rattle.rv64_instr.specs.Linked.{linked_value}
-use Rattle.rv64_instr.specs.Arithmetic.{word, computed, taken, load_width, store_width, extended}
-use Rattle.rv64_instr.specs.Row.{Input, Content, Number, PartOf}
-use Rattle.rv64_instr.specs.Row.{Base, PointedBy, ObjectAt, BesidePart}
-use Rattle.rv64_instr.specs.declared.start.CallTarget.{CallTarget}
-use Rattle.rv64_instr.specs.declared.start.CallTarget.TheVariants.{Function, Address}
-use Rattle.rv64_instr.specs.Row.{Callee, Named, Held, Way, Back, Tail, Never, Ending, CallSite}
-use Rattle.rv64_instr.specs.Row.{Row, Fixes, Moves, Sets, Addresses, Loads, Stores, LoadsSlot, StoresSlot, Branches, Jumps, Calls, Returns, Unfit, row_of}
-use Rattle.rv64_instr.specs.DefsAndUses.{caller_saved, reads}
-use Rattle.rv64_instr.specs.LocationEffects.{is_call}
+use Rattle.mir_func.specs.rv64_instr.declared.op.LoadOp.{LoadOp}
+use Rattle.mir_func.specs.rv64_instr.declared.op.StoreOp.{StoreOp}
+use Rattle.mir_func.specs.rv64_instr.declared.operand.Operand.{Operand}
+use Rattle.mir_func.specs.rv64_instr.declared.operand.Operand.TheVariants.{Def, ImplicitDef}
+use Rattle.mir_func.specs.rv64_instr.declared.place.Place.{Place}
+use Rattle.mir_func.specs.rv64_instr.declared.place.Place.TheVariants.{Register, Slot, Const}
+use Rattle.mir_func.specs.rv64_instr.declared.symbol.Half.TheVariants.{Lower}
+use Rattle.mir_func.specs.rv64_instr.Linked.{linked_value}
+use Rattle.mir_func.specs.rv64_instr.Arithmetic.{word, computed, taken, load_width, store_width, extended}
+use Rattle.mir_func.specs.rv64_instr.Row.{Input, Content, Number, PartOf}
+use Rattle.mir_func.specs.rv64_instr.Row.{Base, PointedBy, ObjectAt, BesidePart}
+use Rattle.mir_func.specs.rv64_instr.declared.start.CallTarget.{CallTarget}
+use Rattle.mir_func.specs.rv64_instr.declared.start.CallTarget.TheVariants.{Function, Address}
+use Rattle.mir_func.specs.rv64_instr.Row.{Callee, Named, Held, Way, Back, Tail, Never, Ending, CallSite}
+use Rattle.mir_func.specs.rv64_instr.Row.{Row, Fixes, Moves, Sets, Addresses, Loads, Stores, LoadsSlot, StoresSlot, Branches, Jumps, Calls, Returns, Unfit, row_of}
+use Rattle.mir_func.specs.rv64_instr.DefsAndUses.{caller_saved, reads}
+use Rattle.mir_func.specs.rv64_instr.LocationEffects.{is_call}
 use Rattle.mir_func.specs.declared.debug_substitution.OperandPair.{OperandPair}
 use Rattle.mir_func.specs.declared.position.Pos.{Pos}
 use Rattle.mir_func.specs.declared.variable.VarId.{VarId}

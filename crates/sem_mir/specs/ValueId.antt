@@ -1,14 +1,14 @@
 -- Which values are in which locations: value numbers along a path, and what is true of them on every path.
 use Rattle.std.specs.Prelude.{◌≡◌, ℕ, zero, suc, List, [], ◌∷◌, Option, Some, None, Bool, cond, not, ◌&&◌, nat_eq, nat_lt, slice_get}
 use Rattle.std.specs.List.{list_any}
-use Rattle.rv64_instr.specs.declared.operand.Operand.{Operand}
-use Rattle.rv64_instr.specs.declared.place.Place.{Place}
-use Rattle.rv64_instr.specs.declared.place.Place.TheVariants.{Register, Slot, Const}
-use Rattle.rv64_instr.specs.Arithmetic.{word}
-use Rattle.rv64_instr.specs.Row.{Row, row_of}
-use Rattle.rv64_instr.specs.View.{Value, Literal, OfRegister, OfSlot, Computed, Write, SetsNothing, SetsRegister, SetsSlot, Clobbers, write_of}
-use Rattle.rv64_instr.specs.LocationEffects.{is_call}
-use Rattle.rv64_instr.specs.DefsAndUses.{caller_saved, sets}
+use Rattle.mir_func.specs.rv64_instr.declared.operand.Operand.{Operand}
+use Rattle.mir_func.specs.rv64_instr.declared.place.Place.{Place}
+use Rattle.mir_func.specs.rv64_instr.declared.place.Place.TheVariants.{Register, Slot, Const}
+use Rattle.mir_func.specs.rv64_instr.Arithmetic.{word}
+use Rattle.mir_func.specs.rv64_instr.Row.{Row, row_of}
+use Rattle.mir_func.specs.rv64_instr.View.{Value, Literal, OfRegister, OfSlot, Computed, Write, SetsNothing, SetsRegister, SetsSlot, Clobbers, write_of}
+use Rattle.mir_func.specs.rv64_instr.LocationEffects.{is_call}
+use Rattle.mir_func.specs.rv64_instr.DefsAndUses.{caller_saved, sets}
 use Rattle.mir_func.specs.declared.debug_substitution.OperandPair.{OperandPair}
 use Rattle.mir_func.specs.declared.position.Pos.{Pos}
 use Rattle.mir_func.specs.declared.variable.VarId.{VarId}

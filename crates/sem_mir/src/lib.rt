@@ -5,5 +5,8 @@
 //! operands only to see which of them define a register under the instruction's debug instruction number.
 #![tactic(auto)]
 
+pub use mir_func as mir_func_crate;
+pub use mir_func::rv64_instr_crate as rv64_instr_crate;
+
 pub mod laws;
 pub mod operand;

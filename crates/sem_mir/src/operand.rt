@@ -3,8 +3,8 @@
 ghost use Rattle.std.specs.Prelude.{◌≡◌, Some};
 ghost use Rattle.sem_mir.specs.Step.{defined as defined_by};
 
-use rv64_instr::operand::Operand;
-use rv64_instr::reg::Reg;
+use mir_func::rv64_instr_crate::operand::Operand;
+use mir_func::rv64_instr_crate::reg::Reg;
 
 /// The register that an operand defines. An implicit definition defines on calls alone.
 pub fn defined(call: bool, operand: &Operand) -> Option<Reg>
@@ -20,6 +20,7 @@ pub fn defined(call: bool, operand: &Operand) -> Option<Reg>
         | Operand::Object(_)
         | Operand::Part(_, _)
         | Operand::Outgoing(_)
+        | Operand::GlobalRegisters
         | Operand::Block(_)
         | Operand::Symbol(_)
         | Operand::Mask => None,

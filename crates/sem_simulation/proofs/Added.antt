@@ -1,12 +1,12 @@
 -- What code is added to follows what it followed.
 use Rattle.std.proofs.Common.{◌≡◌, ℕ, List, [], ◌∷◌, Option, Some, None, true, false, refl, sym, ap, ◌∙◌, subst, inl, inr, ◌⊎◌}
-use Rattle.mir_func.specs.declared.position.Pos.{Pos}
-use Rattle.mir_func.specs.declared.variable.VarId.{VarId}
-use Rattle.mir_func.specs.declared.item.Item.{Item}
+use Rattle.sem_mir.specs.mir_func.declared.position.Pos.{Pos}
+use Rattle.sem_mir.specs.mir_func.declared.variable.VarId.{VarId}
+use Rattle.sem_mir.specs.mir_func.declared.item.Item.{Item}
 use Rattle.sem_mir.specs.State.{State, Core, assigned}
 use Rattle.sem_mir.specs.Step.{Went, Returned, Faulted, Lost, Outcome, Falls, Goes, Gives, Traps, Asks, Breaks, moved, do_item, do_fetch, step}
-use Rattle.mir_func.specs.Graph.{Fetch, Here, EndOfBlock, Outside, below, block_start}
-use Rattle.mir_func.specs.Positions.{position_of}
+use Rattle.sem_mir.specs.mir_func.Graph.{Fetch, Here, EndOfBlock, Outside, below, block_start}
+use Rattle.sem_mir.specs.mir_func.Positions.{position_of}
 use Rattle.sem_mir.specs.Align.{is_code, SyncPoint, Count, sync_point_of, end_sync_point, IsOrigin, here, Since, Start, Same, After, since_of}
 use Rattle.sem_mir.specs.Align.{MatchesNext}
 use Rattle.sem_mir.specs.Align.{MatchedUpTo, begin, other, met, Agrees, RunsMatch}

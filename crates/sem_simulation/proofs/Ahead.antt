@@ -2,30 +2,30 @@
 use Rattle.std.proofs.Common.{◌≡◌, ℕ, ◌*◌, ◌<◌, ◌≤◌, List, [], ◌∷◌, All, Option, Some, None, Bool, true, false, cond, refl, sym, ap, ◌∙◌, subst, inl, inr}
 use Rattle.std.proofs.Common.{◌⊎◌, arith}
 use Rattle.std.proofs.lemmas.List.Elements.{All-cons, All-head, All-tail, All-nil}
-use Rattle.rv64_instr.specs.Row.{Row, Fixes, Loads, Stores, LoadsSlot, StoresSlot, Branches, Jumps, Calls, Returns, row_of, Back}
-use Rattle.rv64_instr.specs.DefsAndUses.{reads}
-use Rattle.mir_func.specs.declared.object.Object as stack_object
-use Rattle.mir_func.specs.declared.position.Pos.{Pos}
-use Rattle.mir_func.specs.declared.position.Origin.{Origin}
-use Rattle.mir_func.specs.declared.position.Origin.TheVariants.{Kept, Before}
-use Rattle.mir_func.specs.declared.variable.VarId.{VarId}
-use Rattle.mir_func.specs.declared.variable.MarkValue.TheVariants.{Nothing, Constant, At, Pair}
-use Rattle.mir_func.specs.declared.item.Item.{Item}
-use Rattle.mir_func.specs.declared.item.ItemKind.{ItemKind}
-use Rattle.mir_func.specs.declared.item.ItemKind.TheVariants.{Code, Mark, Phi}
+use Rattle.sem_mir.specs.rv64_instr.Row.{Row, Fixes, Loads, Stores, LoadsSlot, StoresSlot, Branches, Jumps, Calls, Returns, row_of, Back}
+use Rattle.sem_mir.specs.rv64_instr.DefsAndUses.{reads}
+use Rattle.sem_mir.specs.mir_func.declared.object.Object as stack_object
+use Rattle.sem_mir.specs.mir_func.declared.position.Pos.{Pos}
+use Rattle.sem_mir.specs.mir_func.declared.position.Origin.{Origin}
+use Rattle.sem_mir.specs.mir_func.declared.position.Origin.TheVariants.{Kept, Before}
+use Rattle.sem_mir.specs.mir_func.declared.variable.VarId.{VarId}
+use Rattle.sem_mir.specs.mir_func.declared.variable.MarkValue.TheVariants.{Nothing, Constant, At, Pair}
+use Rattle.sem_mir.specs.mir_func.declared.item.Item.{Item}
+use Rattle.sem_mir.specs.mir_func.declared.item.ItemKind.{ItemKind}
+use Rattle.sem_mir.specs.mir_func.declared.item.ItemKind.TheVariants.{Code, Mark, Phi}
 use Rattle.sem_mir.specs.State.{Reply, Core, State, assigned, RunResult}
-use Rattle.mir_func.specs.Variables.{is_same, overlaps}
+use Rattle.sem_mir.specs.mir_func.Variables.{is_same, overlaps}
 use Rattle.sem_mir.specs.Step.{Outcome, Falls, Goes, Gives, Traps, Asks, Breaks}
 use Rattle.sem_mir.specs.Step.{exec_external_call, passed, call_faults, slot_loaded, does, are_written, act, with_core, numbered}
 use Rattle.sem_mir.specs.Step.{do_item, called_at}
-use Rattle.rv64_instr.specs.LocationEffects.{is_call}
-use Rattle.mir_func.specs.Graph.{Program, Fetch, Here, EndOfBlock, Outside}
-use Rattle.mir_func.specs.Positions.{position_of}
+use Rattle.sem_mir.specs.rv64_instr.LocationEffects.{is_call}
+use Rattle.sem_mir.specs.mir_func.Graph.{Program, Fetch, Here, EndOfBlock, Outside}
+use Rattle.sem_mir.specs.mir_func.Positions.{position_of}
 use Rattle.sem_mir.specs.Align.{Count, Since}
 use Rattle.sem_mir.specs.InitialState.{IsInitialState}
 use Rattle.sem_mir.specs.Follow.{MayAdd, ItemHasClass, HasClass, KindFits, MarkFits, rank, next_rank, InOrder, OnRow}
-use Rattle.rv64_instr.specs.View.{class_of, Return}
-use Rattle.rv64_instr.specs.declared.start.CallTarget.{CallTarget}
+use Rattle.sem_mir.specs.rv64_instr.View.{class_of, Return}
+use Rattle.sem_mir.specs.rv64_instr.declared.start.CallTarget.{CallTarget}
 use Rattle.sem_simulation.specs.MatchStates.{since_item}
 use Rattle.sem_simulation.specs.Refinement.{FaultsAt}
 use Rattle.sem_simulation.specs.InPlace.{ShowsNoMore, IsNoReturn, IsIdleAt}

@@ -2,14 +2,14 @@
 use Rattle.std.proofs.Common.{◌≡◌, ℕ, zero, suc, ◌+◌, ◌-◌, ◌*◌, ◌<◌, ◌≤◌, List, [], ◌∷◌, length, All, Option, Some, Bool, true, false, refl, sym, ap, ◌∙◌}
 use Rattle.std.proofs.Common.{subst, inl, inr, ◌⊎◌, arith}
 use Rattle.std.proofs.lemmas.Bool.{cases_lt}
-use Rattle.mir_func.specs.declared.position.Pos.{Pos}
-use Rattle.mir_func.specs.declared.position.Origin.{Origin}
-use Rattle.mir_func.specs.declared.position.Origin.TheVariants.{Kept, Before}
-use Rattle.mir_func.specs.declared.item.Item.{Item}
+use Rattle.sem_mir.specs.mir_func.declared.position.Pos.{Pos}
+use Rattle.sem_mir.specs.mir_func.declared.position.Origin.{Origin}
+use Rattle.sem_mir.specs.mir_func.declared.position.Origin.TheVariants.{Kept, Before}
+use Rattle.sem_mir.specs.mir_func.declared.item.Item.{Item}
 use Rattle.sem_mir.specs.State.{State, Core}
 use Rattle.sem_mir.specs.Step.{Faulted, Outcome, Falls, Goes, Gives, Traps, Asks, Breaks, do_item, step}
-use Rattle.mir_func.specs.Graph.{Here, EndOfBlock, below, block_start}
-use Rattle.mir_func.specs.Positions.{position_of}
+use Rattle.sem_mir.specs.mir_func.Graph.{Here, EndOfBlock, below, block_start}
+use Rattle.sem_mir.specs.mir_func.Positions.{position_of}
 use Rattle.sem_mir.specs.Align.{is_code, SyncPoint, moves_on, waits_at, sync_point_of, IsOrigin, Since, Same, After, since_of}
 use Rattle.sem_mir.specs.Follow.{rank, next_rank, InOrder}
 use Rattle.sem_simulation.specs.MatchStates.{ShowsSame, since_item}

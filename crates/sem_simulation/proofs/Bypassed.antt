@@ -1,11 +1,11 @@
 -- A rewiring: how f goes on, past what is bypassed, to the block into which g goes.
 use Rattle.std.proofs.Common.{◌≡◌, ℕ, ◌+◌, ◌*◌, ◌≤◌, List, Option, Some, None, Bool, false, refl, sym, ap, ◌∙◌, subst, inl, inr, ◌⊎◌, arith}
-use Rattle.mir_func.specs.declared.position.Pos.{Pos}
-use Rattle.mir_func.specs.declared.item.Item.{Item}
+use Rattle.sem_mir.specs.mir_func.declared.position.Pos.{Pos}
+use Rattle.sem_mir.specs.mir_func.declared.item.Item.{Item}
 use Rattle.sem_mir.specs.State.{State, Core}
 use Rattle.sem_mir.specs.Step.{Went, Falls, Goes, Traps, do_item, step}
-use Rattle.mir_func.specs.Graph.{Here, EndOfBlock, below, block_start}
-use Rattle.mir_func.specs.Positions.{position_of}
+use Rattle.sem_mir.specs.mir_func.Graph.{Here, EndOfBlock, below, block_start}
+use Rattle.sem_mir.specs.mir_func.Positions.{position_of}
 use Rattle.sem_mir.specs.Align.{SyncPoint, ByItems, ByEnds, waits_at, sync_point_of, sync_point_at, IsOrigin, Since, After, since_of}
 use Rattle.sem_mir.specs.Follow.{next_rank, InOrder}
 use Rattle.sem_simulation.specs.Refinement.{waiting, Walk, on, past, MayPass, gone, late, IsDoomed, faults, later, later_past}

@@ -1,12 +1,12 @@
 -- What is changed in place follows what it followed.
 use Rattle.std.proofs.Common.{◌≡◌, ℕ, ◌+◌, ◌*◌, ◌≤◌, List, [], ◌∷◌, Option, Some, None, Bool, true, false, refl, sym, ap, ◌∙◌, subst, inl, inr, ◌⊎◌, arith}
-use Rattle.mir_func.specs.declared.position.Pos.{Pos}
-use Rattle.mir_func.specs.declared.position.Origin.{Origin}
-use Rattle.mir_func.specs.declared.item.Item.{Item}
+use Rattle.sem_mir.specs.mir_func.declared.position.Pos.{Pos}
+use Rattle.sem_mir.specs.mir_func.declared.position.Origin.{Origin}
+use Rattle.sem_mir.specs.mir_func.declared.item.Item.{Item}
 use Rattle.sem_mir.specs.State.{State, Core, RunResult}
 use Rattle.sem_mir.specs.Step.{Went, Returned, Faulted, Lost, Outcome, Falls, Goes, Gives, Traps, Asks, Breaks, moved, do_item, do_fetch, step}
-use Rattle.mir_func.specs.Graph.{Fetch, Here, EndOfBlock, Outside, below, block_start}
-use Rattle.mir_func.specs.Positions.{position_of}
+use Rattle.sem_mir.specs.mir_func.Graph.{Fetch, Here, EndOfBlock, Outside, below, block_start}
+use Rattle.sem_mir.specs.mir_func.Positions.{position_of}
 use Rattle.sem_mir.specs.Align.{is_code, SyncPoint, Count, moves_on, waits_at, sync_point_of, end_sync_point, Since, After, since_of, AnyOrigin}
 use Rattle.sem_mir.specs.Align.{RunsMatch}
 use Rattle.sem_mir.specs.Follow.{rank, next_rank, InOrder}

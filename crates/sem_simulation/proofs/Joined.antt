@@ -1,11 +1,11 @@
 -- Added code: how the alignments of f and g come on, and f goes past what it has alone.
 use Rattle.std.proofs.Common.{◌≡◌, ℕ, zero, suc, ◌≤◌, List, ◌∷◌, length, Option, false, refl, sym, ap, ◌∙◌, subst, inl, inr, ◌⊎◌, arith}
-use Rattle.mir_func.specs.declared.position.Pos.{Pos}
-use Rattle.mir_func.specs.declared.item.Item.{Item}
+use Rattle.sem_mir.specs.mir_func.declared.position.Pos.{Pos}
+use Rattle.sem_mir.specs.mir_func.declared.item.Item.{Item}
 use Rattle.sem_mir.specs.State.{State, Core}
 use Rattle.sem_mir.specs.Step.{Went, Falls, do_item, step}
-use Rattle.mir_func.specs.Graph.{Program, below, block_start}
-use Rattle.mir_func.specs.Positions.{position_of}
+use Rattle.sem_mir.specs.mir_func.Graph.{Program, below, block_start}
+use Rattle.sem_mir.specs.mir_func.Positions.{position_of}
 use Rattle.sem_mir.specs.Align.{is_code, SyncPoint, Count, sync_point_at, IsOrigin, Since, Start, Same, After, MatchesNext, AnyOrigin, MatchedUpTo}
 use Rattle.sem_mir.specs.Align.{other}
 use Rattle.sem_mir.specs.Align.{FailsBefore, RunsMatch}

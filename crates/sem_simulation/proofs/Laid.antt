@@ -2,16 +2,16 @@
 use Rattle.std.proofs.Common.{◌≡◌, ℕ, zero, suc, ◌+◌, ◌*◌, ◌<◌, ◌≤◌, List, [], ◌∷◌, drop, All, Contains, slice_get, slice_index_or, Option, Some, Bool, true}
 use Rattle.std.proofs.Common.{false, cond, nat_eq, ne_eqb, refl, sym, ap, ◌∙◌, subst, arith}
 use Rattle.std.proofs.lemmas.List.Elements.{All-contains}
-use Rattle.mir_func.specs.declared.debug_substitution.OperandPair.{OperandPair}
-use Rattle.mir_func.specs.declared.position.Pos.{Pos}
-use Rattle.mir_func.specs.declared.position.Origin.{Origin}
-use Rattle.mir_func.specs.declared.position.Origin.TheVariants.{Kept, Before}
-use Rattle.mir_func.specs.declared.block.Block.{Block}
-use Rattle.mir_func.specs.declared.item.Item.{Item}
-use Rattle.mir_func.specs.Sound.{AreApart, ids_of, OriginIn}
-use Rattle.mir_func.specs.Graph.{Program, Here, EndOfBlock, block_start, end_of, front, fetch_in, from_block, index_of, program_of}
-use Rattle.mir_func.specs.Graph.{framed_program, rest_in, rest_of}
-use Rattle.mir_func.specs.Positions.{position_of}
+use Rattle.sem_mir.specs.mir_func.declared.debug_substitution.OperandPair.{OperandPair}
+use Rattle.sem_mir.specs.mir_func.declared.position.Pos.{Pos}
+use Rattle.sem_mir.specs.mir_func.declared.position.Origin.{Origin}
+use Rattle.sem_mir.specs.mir_func.declared.position.Origin.TheVariants.{Kept, Before}
+use Rattle.sem_mir.specs.mir_func.declared.block.Block.{Block}
+use Rattle.sem_mir.specs.mir_func.declared.item.Item.{Item}
+use Rattle.sem_mir.specs.mir_func.Sound.{AreApart, ids_of, OriginIn}
+use Rattle.sem_mir.specs.mir_func.Graph.{Program, Here, EndOfBlock, block_start, end_of, front, fetch_in, from_block, index_of, program_of}
+use Rattle.sem_mir.specs.mir_func.Graph.{framed_program, rest_in, rest_of}
+use Rattle.sem_mir.specs.mir_func.Positions.{position_of}
 use Rattle.sem_mir.specs.Follow.{next_rank, InOrder}
 use Rattle.sem_mir.proofs.Reading.{found_in, front_item, front_end, end_index, within_list, next_block, apart_tail}
 use Rattle.sem_simulation.specs.MatchStates.{IsPastItems, Laid}

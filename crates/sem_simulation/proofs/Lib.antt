@@ -16,3 +16,5 @@ pub mod Added
 pub mod Turns
 pub mod Words
 pub mod Laid
+pub use Rattle.sem_mir.proofs.mir_func as mir_func
+pub use Rattle.sem_mir.proofs as sem_mir

@@ -1,12 +1,12 @@
 -- The order of a block's origins, and which of f's stations may be passed by it.
 use Rattle.std.proofs.Common.{◌≡◌, ℕ, ◌+◌, ◌*◌, ◌<◌, ◌≤◌, List, [], ◌∷◌, Option, Some, None, Bool, true, false, refl, sym, ap, ◌∙◌, subst, inl, inr, ◌⊎◌, arith}
 use Rattle.std.proofs.lemmas.Bool.{cases_eq, cases_lt}
-use Rattle.mir_func.specs.declared.position.Pos.{Pos}
-use Rattle.mir_func.specs.declared.position.Origin.{Origin}
-use Rattle.mir_func.specs.declared.position.Origin.TheVariants.{Kept, Before}
-use Rattle.mir_func.specs.declared.item.Item.{Item}
-use Rattle.mir_func.specs.Graph.{Program, Here}
-use Rattle.mir_func.specs.Positions.{position_of}
+use Rattle.sem_mir.specs.mir_func.declared.position.Pos.{Pos}
+use Rattle.sem_mir.specs.mir_func.declared.position.Origin.{Origin}
+use Rattle.sem_mir.specs.mir_func.declared.position.Origin.TheVariants.{Kept, Before}
+use Rattle.sem_mir.specs.mir_func.declared.item.Item.{Item}
+use Rattle.sem_mir.specs.mir_func.Graph.{Program, Here}
+use Rattle.sem_mir.specs.mir_func.Positions.{position_of}
 use Rattle.sem_mir.specs.Align.{is_code, Count, moves_on, waits_at, SyncPoint, sync_point_of, IsOrigin, Same, since_of}
 use Rattle.sem_mir.specs.Follow.{rank, next_rank, InOrder}
 use Rattle.sem_simulation.specs.Refinement.{waiting, MayPass, gone, early, late}

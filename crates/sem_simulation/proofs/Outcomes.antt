@@ -1,9 +1,9 @@
 -- Steps that return or stop on a frame fault, and outcomes that are alike.
 use Rattle.std.proofs.Common.{◌≡◌, ℕ, refl, sym, ap, ◌∙◌}
-use Rattle.mir_func.specs.declared.position.Pos.{Pos}
+use Rattle.sem_mir.specs.mir_func.declared.position.Pos.{Pos}
 use Rattle.sem_mir.specs.State.{Core, State, RunResult}
 use Rattle.sem_mir.specs.Step.{Returned, Faulted, Outcome, Falls, Goes, Gives, Traps, Asks, Breaks, moved, step}
-use Rattle.mir_func.specs.Graph.{Program}
+use Rattle.sem_mir.specs.mir_func.Graph.{Program}
 use Rattle.sem_mir.specs.Effects.{EndAlike}
 use Rattle.sem_mir.specs.Align.{Since, After}
 use Rattle.sem_simulation.specs.MatchStates.{OutcomesAlike}

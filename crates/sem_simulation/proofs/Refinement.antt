@@ -1,9 +1,9 @@
 -- What refines a program that follows a source, follows it too.
 use Rattle.std.proofs.Common.{◌≡◌, Option, Some, None, Bool, true, false, refl, sym, ap, ◌∙◌, subst, inl, inr, ◌⊎◌}
-use Rattle.mir_func.specs.declared.position.Pos.{Pos}
+use Rattle.sem_mir.specs.mir_func.declared.position.Pos.{Pos}
 use Rattle.sem_mir.specs.State.{State}
 use Rattle.sem_mir.specs.Step.{Went, Faulted, step}
-use Rattle.mir_func.specs.Graph.{Program}
+use Rattle.sem_mir.specs.mir_func.Graph.{Program}
 use Rattle.sem_mir.specs.Align.{SyncPoint, IsOrigin, Arrives, here, onward, ArrivesLater, Since, Start, Same, After, since_of, MatchesNext, AnyOrigin}
 use Rattle.sem_mir.specs.Align.{MatchedUpTo}
 use Rattle.sem_mir.specs.Align.{begin, other, met, Fails, fails_here, fails_on, FailsLater, FailsBefore, Agrees, RunsMatch}

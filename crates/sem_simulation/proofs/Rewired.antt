@@ -2,13 +2,13 @@
 use Rattle.std.proofs.Common.{◌≡◌, ℕ, zero, suc, ◌+◌, ◌-◌, ◌*◌, ◌<◌, ◌≤◌, List, [], ◌∷◌, Option, Some, None, Bool, true, false, refl, sym, ap, ◌∙◌, subst, inl}
 use Rattle.std.proofs.Common.{inr, ◌⊎◌, le_trans, arith}
 use Rattle.std.proofs.lemmas.Bool.{cases_lt, cases_Bool}
-use Rattle.mir_func.specs.declared.position.Pos.{Pos}
-use Rattle.mir_func.specs.declared.position.Origin.{Origin}
-use Rattle.mir_func.specs.declared.item.Item.{Item}
+use Rattle.sem_mir.specs.mir_func.declared.position.Pos.{Pos}
+use Rattle.sem_mir.specs.mir_func.declared.position.Origin.{Origin}
+use Rattle.sem_mir.specs.mir_func.declared.item.Item.{Item}
 use Rattle.sem_mir.specs.State.{State, Core, RunResult}
 use Rattle.sem_mir.specs.Step.{Went, Returned, Faulted, Lost, Outcome, Falls, Goes, Gives, Traps, Asks, Breaks, moved, do_item, do_fetch, step}
-use Rattle.mir_func.specs.Graph.{Program, Fetch, Here, EndOfBlock, Outside, below, block_start, FetchEdge}
-use Rattle.mir_func.specs.Positions.{position_of}
+use Rattle.sem_mir.specs.mir_func.Graph.{Program, Fetch, Here, EndOfBlock, Outside, below, block_start, FetchEdge}
+use Rattle.sem_mir.specs.mir_func.Positions.{position_of}
 use Rattle.sem_mir.specs.Align.{is_code, SyncPoint, ByItems, ByEnds, moves_on, waits_at, sync_point_of, Since, After, since_of, AnyOrigin}
 use Rattle.sem_mir.specs.Align.{RunsMatch}
 use Rattle.sem_mir.specs.Follow.{rank, next_rank, InOrder}

@@ -1,14 +1,14 @@
 -- Which station what stands at a position is.
 use Rattle.std.proofs.Common.{◌≡◌, ℕ, Some, None, Bool, true, false, refl, sym, ap, ◌∙◌}
-use Rattle.rv64_instr.specs.Row.{Row, Jumps, row_of}
-use Rattle.mir_func.specs.declared.position.Pos.{Pos}
-use Rattle.mir_func.specs.declared.item.Item.{Item}
-use Rattle.mir_func.specs.declared.item.ItemKind.{ItemKind}
-use Rattle.mir_func.specs.declared.item.ItemKind.TheVariants.{Code, Mark, Phi}
+use Rattle.sem_mir.specs.rv64_instr.Row.{Row, Jumps, row_of}
+use Rattle.sem_mir.specs.mir_func.declared.position.Pos.{Pos}
+use Rattle.sem_mir.specs.mir_func.declared.item.Item.{Item}
+use Rattle.sem_mir.specs.mir_func.declared.item.ItemKind.{ItemKind}
+use Rattle.sem_mir.specs.mir_func.declared.item.ItemKind.TheVariants.{Code, Mark, Phi}
 use Rattle.sem_mir.specs.State.{Core}
 use Rattle.sem_mir.specs.Step.{Falls, does, act, with_core, numbered, do_item}
-use Rattle.rv64_instr.specs.LocationEffects.{is_call}
-use Rattle.mir_func.specs.Graph.{Program, Fetch, Here, EndOfBlock, Outside, below, KindEdge}
+use Rattle.sem_mir.specs.rv64_instr.LocationEffects.{is_call}
+use Rattle.sem_mir.specs.mir_func.Graph.{Program, Fetch, Here, EndOfBlock, Outside, below, KindEdge}
 use Rattle.sem_mir.specs.Align.{is_code, is_jump, is_jump_row, SyncPoint, Count, ByItems, ByEnds, ByWords, moves_on, sync_point_of, item_sync_point}
 use Rattle.sem_mir.specs.Align.{end_sync_point}
 use Rattle.sem_mir.specs.Align.{fetch_sync_point, sync_point_at}

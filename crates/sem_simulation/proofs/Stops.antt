@@ -1,13 +1,13 @@
 -- Where more positions stop the source: what comes next for f comes next for g.
 use Rattle.std.proofs.Common.{◌≡◌, Option, refl, sym, ◌∙◌, subst, inl, inr, List}
-use Rattle.mir_func.specs.declared.position.Pos.{Pos}
+use Rattle.sem_mir.specs.mir_func.declared.position.Pos.{Pos}
 use Rattle.sem_mir.specs.State.{State}
 use Rattle.sem_mir.specs.Step.{Went, Faulted, step}
-use Rattle.mir_func.specs.Graph.{Program, Here, block_start, Edge, Leads}
+use Rattle.sem_mir.specs.mir_func.Graph.{Program, Here, block_start, Edge, Leads}
 use Rattle.sem_mir.specs.Align.{SyncPoint, IsOrigin, Arrives, here, onward, ArrivesLater, Since, Start, Same, After, MatchesNext, Fails, fails_here, fails_on}
 use Rattle.sem_mir.specs.Align.{FailsLater, FailsBefore}
-use Rattle.mir_func.specs.declared.block.Block.{Block}
-use Rattle.mir_func.specs.declared.item.Item.{Item}
+use Rattle.sem_mir.specs.mir_func.declared.block.Block.{Block}
+use Rattle.sem_mir.specs.mir_func.declared.item.Item.{Item}
 use Rattle.sem_mir.specs.InitialState.{first_of}
 use Rattle.sem_mir.specs.Follow.{OnRow, GoesTo, Shape}
 use Rattle.sem_simulation.specs.Added.{IsNeverBack, StopsMore}

@@ -1,17 +1,17 @@
 -- Where a run comes round on one position of the source, it does so by one jump.
 use Rattle.std.proofs.Common.{◌≡◌, ℕ, ◌+◌, ◌<◌, ◌≤◌, List, ◌∷◌, Option, Some, None, Bool, true, false, refl, sym, ap, ◌∙◌, subst, inl, inr, ◌⊎◌, arith}
 use Rattle.std.proofs.lemmas.Bool.{cases_Bool, cases_lt}
-use Rattle.rv64_instr.specs.declared.operand.Operand.{Operand}
-use Rattle.rv64_instr.specs.Row.{Row, StoresSlot, Jumps, row_of}
-use Rattle.mir_func.specs.declared.position.Pos.{Pos}
-use Rattle.mir_func.specs.declared.item.Item.{Item}
-use Rattle.mir_func.specs.declared.item.ItemKind.{ItemKind}
-use Rattle.mir_func.specs.declared.item.ItemKind.TheVariants.{Code, Mark, Phi}
+use Rattle.sem_mir.specs.rv64_instr.declared.operand.Operand.{Operand}
+use Rattle.sem_mir.specs.rv64_instr.Row.{Row, StoresSlot, Jumps, row_of}
+use Rattle.sem_mir.specs.mir_func.declared.position.Pos.{Pos}
+use Rattle.sem_mir.specs.mir_func.declared.item.Item.{Item}
+use Rattle.sem_mir.specs.mir_func.declared.item.ItemKind.{ItemKind}
+use Rattle.sem_mir.specs.mir_func.declared.item.ItemKind.TheVariants.{Code, Mark, Phi}
 use Rattle.sem_mir.specs.State.{State, Core, updated}
 use Rattle.sem_mir.specs.Step.{part_of, Went, Outcome, Falls, Goes, moved, act, does, with_core, numbered, mark_value, place_value, do_item, do_fetch, step}
-use Rattle.rv64_instr.specs.LocationEffects.{is_call, IsSlotStore}
-use Rattle.mir_func.specs.Graph.{Program, Fetch, Here, EndOfBlock, Outside, below, block_start, Edge, FetchEdge, KindEdge, RowEdge, Leads, stay, go as by_edge}
-use Rattle.mir_func.specs.Positions.{position_of}
+use Rattle.sem_mir.specs.rv64_instr.LocationEffects.{is_call, IsSlotStore}
+use Rattle.sem_mir.specs.mir_func.Graph.{Program, Fetch, Here, EndOfBlock, Outside, below, block_start, Edge, FetchEdge, KindEdge, RowEdge, Leads, stay, go as by_edge}
+use Rattle.sem_mir.specs.mir_func.Positions.{position_of}
 use Rattle.sem_mir.specs.Align.{is_code, is_jump, is_jump_row, SyncPoint, ByItems, sync_point_of, item_sync_point, fetch_sync_point, sync_point_at}
 use Rattle.sem_mir.specs.Follow.{OnRow}
 use Rattle.sem_simulation.specs.Words.{SameCode, IsAddedJump, HasPlainTurns}

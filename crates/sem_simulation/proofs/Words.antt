@@ -1,13 +1,13 @@
 -- What runs along over items, by the first arrival, runs along over words.
 use Rattle.std.proofs.Common.{◌≡◌, ℕ, Option, Some, None, Bool, true, false, refl, sym, ap, ◌∙◌, subst, inl, inr, ◌⊎◌}
-use Rattle.mir_func.specs.declared.position.Pos.{Pos}
-use Rattle.mir_func.specs.declared.position.Origin.{Origin}
-use Rattle.mir_func.specs.declared.position.Origin.TheVariants.{Kept, Before}
-use Rattle.mir_func.specs.declared.item.Item.{Item}
+use Rattle.sem_mir.specs.mir_func.declared.position.Pos.{Pos}
+use Rattle.sem_mir.specs.mir_func.declared.position.Origin.{Origin}
+use Rattle.sem_mir.specs.mir_func.declared.position.Origin.TheVariants.{Kept, Before}
+use Rattle.sem_mir.specs.mir_func.declared.item.Item.{Item}
 use Rattle.sem_mir.specs.State.{State}
 use Rattle.sem_mir.specs.Step.{Went, step}
-use Rattle.mir_func.specs.Graph.{Program, Fetch, Here, EndOfBlock, Outside}
-use Rattle.mir_func.specs.Positions.{position_of}
+use Rattle.sem_mir.specs.mir_func.Graph.{Program, Fetch, Here, EndOfBlock, Outside}
+use Rattle.sem_mir.specs.mir_func.Positions.{position_of}
 use Rattle.sem_mir.specs.Align.{is_code, is_jump, waits_at, SyncPoint, ByItems, ByWords, sync_point_of, item_sync_point, fetch_sync_point}
 use Rattle.sem_mir.specs.Align.{sync_point_at}
 use Rattle.sem_mir.specs.Align.{Since, Same, After, since_of, MatchesNext, First, MatchedUpTo, begin, other, met, FailsBefore, Agrees, RunsMatch}

@@ -4,37 +4,37 @@ use Rattle.std.proofs.Common.{sym, ap, ◌∙◌, subst, inl, inr, arith, ◌++�
 use Rattle.std.specs.List.{list_all}
 use Rattle.std.proofs.lemmas.Bool.{cases_eq, and_parts, leb-true}
 use Rattle.std.proofs.lemmas.List.Elements.{All-cons, All-head, All-tail, All-nil}
-use Rattle.rv64_instr.specs.declared.op.Op.{Op}
-use Rattle.rv64_instr.specs.declared.op.Op.TheVariants.{Registers, Immediate, Lui, Branch as BranchOn, Load, Store as StoreOf, Copy}
-use Rattle.rv64_instr.specs.declared.op.Op.TheVariants.{PseudoBr, PseudoCall, PseudoRet, PseudoCallIndirect}
-use Rattle.rv64_instr.specs.declared.op.Op.TheVariants.{PseudoTail, PseudoTailIndirect, NoReturnCall, NoReturnCallIndirect}
-use Rattle.rv64_instr.specs.declared.op.ImmediateOp.{ImmediateOp}
-use Rattle.rv64_instr.specs.declared.op.ImmediateOp.TheVariants.{Addi}
-use Rattle.rv64_instr.specs.declared.operand.Operand.{Operand}
-use Rattle.rv64_instr.specs.declared.operand.Operand.TheVariants.{Def, Use, ImplicitUse, Imm, Slot as SlotOperand, Object, Block, Symbol, Mask}
-use Rattle.rv64_instr.specs.Instruction.{Instruction}
-use Rattle.rv64_instr.specs.Form.{is_result, has_form}
-use Rattle.rv64_instr.specs.Arithmetic.{word}
-use Rattle.rv64_instr.specs.Row.{Row, Fixes, Moves, Sets, Addresses, Loads, Stores, LoadsSlot, StoresSlot, Branches, Jumps, Calls, Returns, Unfit, row_of}
-use Rattle.rv64_instr.specs.Row.{row_by, implicit_uses, outgoing_words, move_row, immediate_row, object_row, held_call, held_tail, held_gone}
-use Rattle.rv64_instr.specs.DefsAndUses.{caller_saved, reads, way_reads}
-use Rattle.rv64_instr.proofs.Tails.{tails_low, held_low, arguments_low, held_arguments_low, last_arguments, held_gone_calls}
-use Rattle.mir_func.specs.declared.object.Object as stack_object
-use Rattle.mir_func.specs.declared.position.Pos.{Pos}
-use Rattle.mir_func.specs.declared.item.Item.{Item}
-use Rattle.mir_func.specs.declared.item.ItemKind.{ItemKind}
-use Rattle.mir_func.specs.declared.item.ItemKind.TheVariants.{Code, Mark, Phi}
+use Rattle.sem_mir.specs.rv64_instr.declared.op.Op.{Op}
+use Rattle.sem_mir.specs.rv64_instr.declared.op.Op.TheVariants.{Registers, Immediate, Lui, Branch as BranchOn, Load, Store as StoreOf, Copy}
+use Rattle.sem_mir.specs.rv64_instr.declared.op.Op.TheVariants.{PseudoBr, PseudoCall, PseudoRet, PseudoCallIndirect}
+use Rattle.sem_mir.specs.rv64_instr.declared.op.Op.TheVariants.{PseudoTail, PseudoTailIndirect, NoReturnCall, NoReturnCallIndirect}
+use Rattle.sem_mir.specs.rv64_instr.declared.op.ImmediateOp.{ImmediateOp}
+use Rattle.sem_mir.specs.rv64_instr.declared.op.ImmediateOp.TheVariants.{Addi}
+use Rattle.sem_mir.specs.rv64_instr.declared.operand.Operand.{Operand}
+use Rattle.sem_mir.specs.rv64_instr.declared.operand.Operand.TheVariants.{Def, Use, ImplicitUse, GlobalRegisters, Imm, Slot as SlotOperand, Object, Block, Symbol, Mask}
+use Rattle.sem_mir.specs.rv64_instr.Instruction.{Instruction}
+use Rattle.sem_mir.specs.rv64_instr.Form.{is_result, has_form}
+use Rattle.sem_mir.specs.rv64_instr.Arithmetic.{word}
+use Rattle.sem_mir.specs.rv64_instr.Row.{Row, Fixes, Moves, Sets, Addresses, Loads, Stores, LoadsSlot, StoresSlot, Branches, Jumps, Calls, Returns, Unfit, row_of}
+use Rattle.sem_mir.specs.rv64_instr.Row.{row_by, implicit_uses, move_row, immediate_row, object_row, held_tail, held_gone}
+use Rattle.sem_mir.specs.rv64_instr.DefsAndUses.{caller_saved, reads, way_reads}
+use Rattle.sem_mir.proofs.rv64_instr.Tails.{tails_low, held_low, arguments_low, held_gone_low, last_arguments}
+use Rattle.sem_mir.specs.mir_func.declared.object.Object as stack_object
+use Rattle.sem_mir.specs.mir_func.declared.position.Pos.{Pos}
+use Rattle.sem_mir.specs.mir_func.declared.item.Item.{Item}
+use Rattle.sem_mir.specs.mir_func.declared.item.ItemKind.{ItemKind}
+use Rattle.sem_mir.specs.mir_func.declared.item.ItemKind.TheVariants.{Code, Mark, Phi}
 use Rattle.sem_mir.specs.State.{Reply, Core, State, content, put, put_all}
 use Rattle.sem_mir.specs.Step.{Went, Outcome, Falls, Goes, Gives, Traps, Asks}
 use Rattle.sem_mir.specs.Step.{Breaks, moved, set_register, exec_external_call, slot_loaded, does, are_written}
 use Rattle.sem_mir.specs.Step.{act, with_core, numbered, do_item, do_fetch, step, called_at, result_at, passed, call_faults}
-use Rattle.rv64_instr.specs.LocationEffects.{is_call}
-use Rattle.mir_func.specs.Graph.{Program, Fetch, Here, EndOfBlock, Outside}
+use Rattle.sem_mir.specs.rv64_instr.LocationEffects.{is_call}
+use Rattle.sem_mir.specs.mir_func.Graph.{Program, Fetch, Here, EndOfBlock, Outside}
 use Rattle.sem_mir.specs.Align.{Arrives, here, onward}
 use Rattle.sem_mir.specs.InitialState.{IsInitialState}
 use Rattle.sem_mir.specs.Follow.{OnRow}
-use Rattle.rv64_instr.specs.View.{class_of, Return}
-use Rattle.rv64_instr.specs.declared.start.CallTarget.{CallTarget}
+use Rattle.sem_mir.specs.rv64_instr.View.{class_of, Return}
+use Rattle.sem_mir.specs.rv64_instr.declared.start.CallTarget.{CallTarget}
 use Rattle.sem_simulation.specs.Refinement.{FaultsAt}
 use Rattle.sem_simulation.proofs.Outcomes.{faults_traps}
 use Rattle.sem_mir.specs.Effects.{OnCore}
@@ -151,6 +151,7 @@ results_are_physical (ImplicitUse r ∷ rest) e = by_test (results_are_physical 
       by_test : All (λ r. r < 32) (implicit_uses rest) → (b : Bool) → All (λ r. r < 32) (cond b (implicit_uses rest) (r ∷ implicit_uses rest))
       by_test more true = more
       by_test more false = All-cons (λ r. r < 32) r (implicit_uses rest) low more
+results_are_physical (GlobalRegisters ∷ rest) e = results_are_physical rest e
 results_are_physical (_ ∷ rest) e = cc
 
 -- and those of calls in tail position and of calls that don't return
@@ -161,10 +162,6 @@ held_tail_physical (r ∷ xs) low c = low
 held_gone_physical : (xs : List ℕ) → All (λ r. r < 32) xs → class_of (held_gone xs) ≡ Return → HasPhysicalResults (held_gone xs)
 held_gone_physical [] low c = cc
 held_gone_physical (r ∷ xs) low c = low
-
-held_call_goes_on : (xs outgoing : List ℕ) → class_of (held_call xs outgoing) ≡ Return → ⊥
-held_call_goes_on [] outgoing h = cc
-held_call_goes_on (r ∷ xs) outgoing h = cc
 
 immediate_goes_on : (op : ImmediateOp) (rd a n : ℕ) → class_of (immediate_row op rd a n) ≡ Return → ⊥
 immediate_goes_on Addi rd zero n h = cc
@@ -196,13 +193,13 @@ row_physical (BranchOn op) (Use a ∷ Use b ∷ Block target ∷ rest) e c = cc
 row_physical Copy (Def rd ∷ Use rs ∷ rest) e c = absurd (copy_goes_on rd rs c)
 row_physical PseudoBr (Block target ∷ rest) e c = cc
 row_physical PseudoCall (Symbol name ∷ rest) e c = cc
-row_physical PseudoCallIndirect os e c = absurd (held_call_goes_on (implicit_uses os) (outgoing_words os) c)
+row_physical PseudoCallIndirect (Use r ∷ rest) e c = cc
 row_physical PseudoTail (Symbol name ∷ rest) e c = tails_low rest e
 row_physical PseudoTailIndirect (ImplicitUse r ∷ rest) e c =
     held_tail_physical (implicit_uses (ImplicitUse r ∷ rest)) (held_low r rest e) c
 row_physical NoReturnCall (Symbol name ∷ Mask ∷ rest) e c = arguments_low rest (last_arguments rest e)
 row_physical NoReturnCallIndirect (ImplicitUse r ∷ Mask ∷ rest) e c =
-    held_gone_physical (implicit_uses (ImplicitUse r ∷ Mask ∷ rest)) (held_arguments_low r rest (held_gone_calls (ImplicitUse r ∷ Mask ∷ rest) e)) c
+    held_gone_physical (implicit_uses (ImplicitUse r ∷ Mask ∷ rest)) (held_gone_low r rest e) c
 row_physical _ _ e c = cc
 
 -- so an instruction in its form that returns gives physical registers

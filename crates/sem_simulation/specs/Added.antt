@@ -1,11 +1,11 @@
 -- Added code: at the function's start, before code and after it. No code is deleted.
 use Rattle.std.specs.Prelude.{◌≡◌, ◌⊎◌, ℕ, ◌+◌, List, [], ◌∷◌, Option, true, false}
-use Rattle.mir_func.specs.declared.position.Pos.{Pos}
-use Rattle.mir_func.specs.declared.item.Item.{Item}
+use Rattle.sem_mir.specs.mir_func.declared.position.Pos.{Pos}
+use Rattle.sem_mir.specs.mir_func.declared.item.Item.{Item}
 use Rattle.sem_mir.specs.State.{Core, State}
 use Rattle.sem_mir.specs.Step.{Outcome, Falls, Traps, Went, Faulted, do_item, step}
-use Rattle.mir_func.specs.Graph.{EndOfBlock, Program, Edge, below, block_start}
-use Rattle.mir_func.specs.Positions.{position_of}
+use Rattle.sem_mir.specs.mir_func.Graph.{EndOfBlock, Program, Edge, below, block_start}
+use Rattle.sem_mir.specs.mir_func.Positions.{position_of}
 use Rattle.sem_mir.specs.Align.{is_code, SyncPoint, Count, ByEnds, sync_point_at, IsOrigin, Since, Same, After, AnyOrigin, RunsMatch}
 use Rattle.sem_simulation.specs.MatchStates.{Sides, MatchStates, Laid, since_item, ShowsSame, Does, DoBoth, OutcomesAlike}
 

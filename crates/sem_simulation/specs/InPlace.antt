@@ -1,13 +1,13 @@
 -- Changes in place: each block keeps its code, perhaps rewritten, except for code that is deleted; debug items may be
 -- added and deleted.
 use Rattle.std.specs.Prelude.{◌≡◌, ◌⊎◌, ℕ, ◌*◌, ◌<◌, ◌≤◌, List, [], ◌∷◌, All, true, false}
-use Rattle.mir_func.specs.declared.position.Pos.{Pos}
-use Rattle.mir_func.specs.declared.position.Origin.TheVariants.{Kept}
-use Rattle.mir_func.specs.declared.item.Item.{Item}
+use Rattle.sem_mir.specs.mir_func.declared.position.Pos.{Pos}
+use Rattle.sem_mir.specs.mir_func.declared.position.Origin.TheVariants.{Kept}
+use Rattle.sem_mir.specs.mir_func.declared.item.Item.{Item}
 use Rattle.sem_mir.specs.State.{Core, RunResult}
 use Rattle.sem_mir.specs.Step.{Outcome, Falls, Goes, Gives, Traps, do_item}
-use Rattle.mir_func.specs.Graph.{Here, EndOfBlock, Program, block_start}
-use Rattle.mir_func.specs.Positions.{position_of}
+use Rattle.sem_mir.specs.mir_func.Graph.{Here, EndOfBlock, Program, block_start}
+use Rattle.sem_mir.specs.mir_func.Positions.{position_of}
 use Rattle.sem_mir.specs.Align.{is_code, Count, moves_on, sync_point_at, IsOrigin, Since, After, AnyOrigin, RunsMatch}
 use Rattle.sem_mir.specs.Follow.{next_rank, InOrder}
 use Rattle.sem_simulation.specs.Refinement.{FaultsAt}

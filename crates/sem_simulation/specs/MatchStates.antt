@@ -1,12 +1,12 @@
 -- Common definitions of the simulation laws on lists of items: a program before a change and after it, and how their runs
 -- are related.
 use Rattle.std.specs.Prelude.{◌≡◌, ℕ, List, [], ◌∷◌, Some}
-use Rattle.mir_func.specs.declared.position.Pos.{Pos}
-use Rattle.mir_func.specs.declared.variable.VarId.{VarId}
-use Rattle.mir_func.specs.declared.item.Item.{Item}
+use Rattle.sem_mir.specs.mir_func.declared.position.Pos.{Pos}
+use Rattle.sem_mir.specs.mir_func.declared.variable.VarId.{VarId}
+use Rattle.sem_mir.specs.mir_func.declared.item.Item.{Item}
 use Rattle.sem_mir.specs.State.{Core, State, assigned}
 use Rattle.sem_mir.specs.Step.{Outcome, Falls, Goes, Gives, Traps, Asks, Breaks, do_item}
-use Rattle.mir_func.specs.Graph.{Fetch, Here, EndOfBlock, Outside, Program, below}
+use Rattle.sem_mir.specs.mir_func.Graph.{Fetch, Here, EndOfBlock, Outside, Program, below}
 use Rattle.sem_mir.specs.Align.{Count, sync_point_of, Since, since_of}
 
 -- a program, the items from each position to its block's end, and its start state

@@ -1,11 +1,11 @@
 -- Refinement of a program f by a program g: g does the same, step for step, except for what it leaves out. If f's run refines a
 -- source's, so does g's.
 use Rattle.std.specs.Prelude.{◌≡◌, ◌⊎◌, ℕ, Option, Some, None}
-use Rattle.mir_func.specs.declared.position.Pos.{Pos}
-use Rattle.mir_func.specs.declared.variable.VarId.{VarId}
+use Rattle.sem_mir.specs.mir_func.declared.position.Pos.{Pos}
+use Rattle.sem_mir.specs.mir_func.declared.variable.VarId.{VarId}
 use Rattle.sem_mir.specs.State.{State, RunResult}
 use Rattle.sem_mir.specs.Step.{Went, Returned, Faulted, step}
-use Rattle.mir_func.specs.Graph.{Program}
+use Rattle.sem_mir.specs.mir_func.Graph.{Program}
 use Rattle.sem_mir.specs.Align.{SyncPoint, IsOrigin, Arrives, Since, Start, Same, After, since_of, AnyOrigin, Tells, RunsMatch}
 
 -- the position at which the source may still be at the next station

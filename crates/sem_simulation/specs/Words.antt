@@ -1,16 +1,16 @@
 -- From matching at instructions to matching at machine words: they differ while a run loops on one jump.
 use Rattle.std.specs.Prelude.{◌≡◌, ◌⊎◌, ◌<◌, ◌≤◌, Some, true, false}
-use Rattle.mir_func.specs.declared.position.Pos.{Pos}
-use Rattle.mir_func.specs.declared.item.Item.{Item}
+use Rattle.sem_mir.specs.mir_func.declared.position.Pos.{Pos}
+use Rattle.sem_mir.specs.mir_func.declared.item.Item.{Item}
 use Rattle.sem_mir.specs.State.{Core, State}
 use Rattle.sem_mir.specs.Step.{Went, step}
-use Rattle.mir_func.specs.Graph.{Here, Program, Leads}
-use Rattle.mir_func.specs.Positions.{position_of}
+use Rattle.sem_mir.specs.mir_func.Graph.{Here, Program, Leads}
+use Rattle.sem_mir.specs.mir_func.Positions.{position_of}
 use Rattle.sem_mir.specs.Align.{is_code, is_jump, waits_at, SyncPoint, ByItems, ByWords, sync_point_at, Since, MatchesNext, First, MatchedUpTo}
 use Rattle.sem_mir.specs.Align.{FailsBefore}
 use Rattle.sem_mir.specs.Align.{Agrees, RunsMatch}
 use Rattle.sem_mir.specs.Follow.{OnRow}
-use Rattle.rv64_instr.specs.LocationEffects.{IsSlotStore}
+use Rattle.sem_mir.specs.rv64_instr.LocationEffects.{IsSlotStore}
 
 -- two cores that agree on all but debug values and pairs
 pub record SameCode (c d : Core) : Type 0 where

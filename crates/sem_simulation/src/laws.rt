@@ -2,7 +2,7 @@
 //! about that of a type parameter.
 
 ghost use Rattle.std.specs.Prelude.{Option};
-ghost use Rattle.mir_func.specs.declared.position.Pos.{Pos};
+ghost use Rattle.sem_mir.specs.mir_func.declared.position.Pos.{Pos};
 ghost use Rattle.sem_mir.specs.State.{State};
 ghost use Rattle.sem_simulation.specs.Refinement.{RefinementFollows};
 ghost use Rattle.sem_simulation.specs.MatchStates.{MatchStates};

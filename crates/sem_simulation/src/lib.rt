@@ -4,4 +4,6 @@
 //! facts of lists and of single items, by a matching relation of its user's, and never facts of runs.
 #![tactic(auto)]
 
+pub use sem_mir::{mir_func_crate as mir_func_crate, rv64_instr_crate as rv64_instr_crate};
+
 pub mod laws;

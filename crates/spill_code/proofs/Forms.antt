@@ -2,17 +2,17 @@
 use Rattle.std.proofs.Common.{◌≡◌, ℕ, List, [], ◌∷◌, map, Bool, ◌&&◌, refl, ap}
 use Rattle.std.specs.List.{list_all}
 use Rattle.std.specs.Prelude.{pos}
-use Rattle.rv64_instr.specs.declared.op.Op.{Op}
-use Rattle.rv64_instr.specs.declared.op.Op.TheVariants.{Registers, Immediate, Lui, Branch, Load, Store, Copy}
-use Rattle.rv64_instr.specs.declared.op.Op.TheVariants.{PseudoBr, PseudoCall, PseudoRet, PseudoCallIndirect}
-use Rattle.rv64_instr.specs.declared.op.Op.TheVariants.{PseudoTail, PseudoTailIndirect, NoReturnCall, NoReturnCallIndirect}
-use Rattle.rv64_instr.specs.declared.operand.Operand.{Operand}
-use Rattle.rv64_instr.specs.declared.operand.Operand.TheVariants.{Def, Use, Imm, Slot, Object, Part, Block, Symbol, Mask, ImplicitUse}
-use Rattle.rv64_instr.specs.declared.symbol.Half.TheVariants.{Upper, Lower}
-use Rattle.rv64_instr.specs.Arithmetic.{load_width, store_width}
-use Rattle.rv64_instr.specs.Form.{is_within, has_12_bits, is_immediate, is_addi, moves_slot}
-use Rattle.rv64_instr.specs.Form.{is_implicit, is_argument, is_result, has_form, is_tail_use, is_last_argument}
-use Rattle.rv64_instr.specs.Form.{is_call_register, is_held_tail_register, is_held_tail_use}
+use Rattle.mir_func.specs.rv64_instr.declared.op.Op.{Op}
+use Rattle.mir_func.specs.rv64_instr.declared.op.Op.TheVariants.{Registers, Immediate, Lui, Branch, Load, Store, Copy}
+use Rattle.mir_func.specs.rv64_instr.declared.op.Op.TheVariants.{PseudoBr, PseudoCall, PseudoRet, PseudoCallIndirect}
+use Rattle.mir_func.specs.rv64_instr.declared.op.Op.TheVariants.{PseudoTail, PseudoTailIndirect, NoReturnCall, NoReturnCallIndirect}
+use Rattle.mir_func.specs.rv64_instr.declared.operand.Operand.{Operand}
+use Rattle.mir_func.specs.rv64_instr.declared.operand.Operand.TheVariants.{Def, Use, Imm, Slot, Object, Part, Block, Symbol, Mask, ImplicitUse}
+use Rattle.mir_func.specs.rv64_instr.declared.symbol.Half.TheVariants.{Upper, Lower}
+use Rattle.mir_func.specs.rv64_instr.Arithmetic.{load_width, store_width}
+use Rattle.mir_func.specs.rv64_instr.Form.{is_within, has_12_bits, is_immediate, is_addi, moves_slot}
+use Rattle.mir_func.specs.rv64_instr.Form.{is_implicit, is_argument, is_result, has_form, is_tail_use, is_last_argument}
+use Rattle.mir_func.specs.rv64_instr.Form.{is_call_register, is_held_tail_register, is_held_tail_use}
 use Rattle.spill_code.specs.Rewrite.{renamed_operand}
 
 module _ (at_use at_def : ℕ → ℕ) where
@@ -80,8 +80,7 @@ module _ (at_use at_def : ℕ → ℕ) where
   form_same PseudoBr (Block n ∷ rest) = rest_same rest
   form_same PseudoCall (Symbol name ∷ Mask ∷ rest) = all_same is_argument argument_same rest
   form_same PseudoRet os = all_same is_result result_same os
-  form_same PseudoCallIndirect (ImplicitUse r ∷ Mask ∷ rest) =
-      ap (λ (z : Bool). is_call_register r && z) (all_same is_argument argument_same rest)
+  form_same PseudoCallIndirect (Use r ∷ Mask ∷ rest) = all_same is_argument argument_same rest
   form_same PseudoTail (Symbol name ∷ rest) = all_same is_tail_use tail_same rest
   form_same PseudoTailIndirect (ImplicitUse r ∷ rest) =
       ap (λ (z : Bool). is_held_tail_register r && z) (all_same is_held_tail_use held_tail_same rest)

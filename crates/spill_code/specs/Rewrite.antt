@@ -1,17 +1,17 @@
 -- How code is rewritten when registers are spilled to slots.
-use Rattle.std.specs.Prelude.{ℕ, List, [], ◌∷◌, ◌++◌, map, Option, Some, None, cond, nat_eq, pos}
+use Rattle.std.specs.Prelude.{ℕ, false, List, [], ◌∷◌, ◌++◌, map, Option, Some, None, cond, nat_eq, pos}
 use Rattle.std.specs.List.{flat_map}
-use Rattle.rv64_instr.specs.declared.op.Op.TheVariants.{Load, Store}
-use Rattle.rv64_instr.specs.declared.op.LoadOp.TheVariants.{Ld}
-use Rattle.rv64_instr.specs.declared.op.StoreOp.TheVariants.{Sd}
-use Rattle.rv64_instr.specs.declared.operand.Operand.{Operand}
-use Rattle.rv64_instr.specs.declared.operand.Operand.TheVariants.{Def, Use, ImplicitDef, ImplicitUse}
-use Rattle.rv64_instr.specs.declared.operand.Operand.TheVariants.{Imm, Slot as OfSlot, Object as OfObject, Part, Outgoing, Block as OfBlock}
-use Rattle.rv64_instr.specs.declared.operand.Operand.TheVariants.{Symbol, Mask}
-use Rattle.rv64_instr.specs.declared.place.Place.{Place}
-use Rattle.rv64_instr.specs.declared.place.Place.TheVariants.{Register, Slot, Const}
-use Rattle.rv64_instr.specs.Instruction.{Instruction}
-use Rattle.rv64_instr.specs.LocationEffects.{names_slot}
+use Rattle.mir_func.specs.rv64_instr.declared.op.Op.TheVariants.{Load, Store}
+use Rattle.mir_func.specs.rv64_instr.declared.op.LoadOp.TheVariants.{Ld}
+use Rattle.mir_func.specs.rv64_instr.declared.op.StoreOp.TheVariants.{Sd}
+use Rattle.mir_func.specs.rv64_instr.declared.operand.Operand.{Operand}
+use Rattle.mir_func.specs.rv64_instr.declared.operand.Operand.TheVariants.{Def, Use, ImplicitDef, ImplicitUse}
+use Rattle.mir_func.specs.rv64_instr.declared.operand.Operand.TheVariants.{Imm, Slot as OfSlot, Object as OfObject, Part, Outgoing, GlobalRegisters, Block as OfBlock}
+use Rattle.mir_func.specs.rv64_instr.declared.operand.Operand.TheVariants.{Symbol, Mask}
+use Rattle.mir_func.specs.rv64_instr.declared.place.Place.{Place}
+use Rattle.mir_func.specs.rv64_instr.declared.place.Place.TheVariants.{Register, Slot, Const}
+use Rattle.mir_func.specs.rv64_instr.Instruction.{Instruction}
+use Rattle.mir_func.specs.rv64_instr.LocationEffects.{names_slot}
 use Rattle.mir_func.specs.declared.position.Pos.{Pos}
 use Rattle.mir_func.specs.declared.position.Origin.{Origin}
 use Rattle.mir_func.specs.declared.position.Origin.TheVariants.{Before}
@@ -44,6 +44,7 @@ slot_used homes (OfSlot n) = None
 slot_used homes (OfObject n) = None
 slot_used homes (Part half y) = None
 slot_used homes (Outgoing n) = None
+slot_used homes GlobalRegisters = None
 slot_used homes (OfBlock n) = None
 slot_used homes (Symbol name) = None
 slot_used homes Mask = None
@@ -59,6 +60,7 @@ slot_defined homes (OfSlot n) = None
 slot_defined homes (OfObject n) = None
 slot_defined homes (Part half y) = None
 slot_defined homes (Outgoing n) = None
+slot_defined homes GlobalRegisters = None
 slot_defined homes (OfBlock n) = None
 slot_defined homes (Symbol name) = None
 slot_defined homes Mask = None
@@ -120,13 +122,14 @@ renamed_operand at_use at_def (OfSlot n) = OfSlot n
 renamed_operand at_use at_def (OfObject n) = OfObject n
 renamed_operand at_use at_def (Part half y) = Part half y
 renamed_operand at_use at_def (Outgoing n) = Outgoing n
+renamed_operand at_use at_def GlobalRegisters = GlobalRegisters
 renamed_operand at_use at_def (OfBlock n) = OfBlock n
 renamed_operand at_use at_def (Symbol name) = Symbol name
 renamed_operand at_use at_def Mask = Mask
 
 -- the instruction with the registers of its explicit uses and definitions replaced
 abbrev pub renamed_code : (at_use at_def : ℕ → ℕ) → Instruction → Instruction
-renamed_code at_use at_def i = record { op = i.op; operands = map (renamed_operand at_use at_def) i.operands }
+renamed_code at_use at_def i = record i { operands = map (renamed_operand at_use at_def) i.operands }
 
 -- the instruction with scratch registers in place of spilled ones
 abbrev pub spilled_code : Spilling → Instruction → Instruction
@@ -136,11 +139,11 @@ spilled_code s i = renamed_code (use_now s (first_used s.homes i.operands)) (def
 
 -- `LD r, slot`, the reload of a slot into r (LLVM: `loadRegFromStackSlot`)
 abbrev pub load : (r slot : ℕ) → Instruction
-load r slot = record { op = Load Ld; operands = Def r ∷ OfSlot slot ∷ Imm (pos 0) ∷ [] }
+load r slot = record { op = Load Ld; operands = Def r ∷ OfSlot slot ∷ Imm (pos 0) ∷ []; volatile = false }
 
 -- `SD r, slot`, the spill of r into its slot (LLVM: `storeRegToStackSlot`)
 abbrev pub store : (r slot : ℕ) → Instruction
-store r slot = record { op = Store Sd; operands = Use r ∷ OfSlot slot ∷ Imm (pos 0) ∷ [] }
+store r slot = record { op = Store Sd; operands = Use r ∷ OfSlot slot ∷ Imm (pos 0) ∷ []; volatile = false }
 
 -- added code before a position, without number and debug location
 abbrev pub added : Pos → Instruction → Item

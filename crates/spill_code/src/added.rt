@@ -9,10 +9,10 @@ use base_ids::function_ids::{BlockId, SlotId};
 use mir_func::item::{Item, ItemKind, Items};
 use mir_func::location::Loc;
 use mir_func::position::{Origin, Pos};
-use rv64_instr::instr::Instr;
-use rv64_instr::op::{LoadOp, Op, StoreOp};
-use rv64_instr::operand::{Operand, Operands};
-use rv64_instr::reg::Reg;
+use mir_func::rv64_instr_crate::instr::Instr;
+use mir_func::rv64_instr_crate::op::{LoadOp, Op, StoreOp};
+use mir_func::rv64_instr_crate::operand::{Operand, Operands};
+use mir_func::rv64_instr_crate::reg::Reg;
 use std::alloc::{AllocError, Global};
 
 /// `LD r, slot` (LLVM: `loadRegFromStackSlot`).
@@ -26,6 +26,7 @@ fn load(alloc: Global, r: Reg, slot: SlotId) -> Result<Instr, AllocError>
     Ok(Instr {
         op: Op::Load(LoadOp::Ld),
         operands,
+        volatile: false,
     })
 }
 
@@ -40,6 +41,7 @@ fn store(alloc: Global, r: Reg, slot: SlotId) -> Result<Instr, AllocError>
     Ok(Instr {
         op: Op::Store(StoreOp::Sd),
         operands,
+        volatile: false,
     })
 }
 

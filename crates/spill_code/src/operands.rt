@@ -6,9 +6,9 @@ ghost use Rattle.spill_code.specs.Rewrite.{use_now, def_now, renamed_operand, sp
 
 use crate::spilling::{SlotAssignment, Spilling, slot_of};
 use base_ids::function_ids::SlotId;
-use rv64_instr::instr::Instr;
-use rv64_instr::operand::{Operand, Operands};
-use rv64_instr::reg::Reg;
+use mir_func::rv64_instr_crate::instr::Instr;
+use mir_func::rv64_instr_crate::operand::{Operand, Operands};
+use mir_func::rv64_instr_crate::reg::Reg;
 use std::alloc::{AllocError, Global};
 
 /// The slot of the first spilled register that operands read.
@@ -59,6 +59,7 @@ fn slot_used(homes: &[SlotAssignment], operand: &Operand) -> Option<SlotId>
         | Operand::Object(_)
         | Operand::Part(_, _)
         | Operand::Outgoing(_)
+        | Operand::GlobalRegisters
         | Operand::Imm(_)
         | Operand::Symbol(_)
         | Operand::Block(_)
@@ -81,7 +82,8 @@ fn slot_defined(homes: &[SlotAssignment], operand: &Operand) -> Option<SlotId>
         | Operand::Slot(_)
         | Operand::Object(_)
         | Operand::Part(_, _)
-        | Operand::Outgoing(_) => None,
+        | Operand::Outgoing(_)
+        | Operand::GlobalRegisters => None,
     }
 }
 
@@ -146,6 +148,7 @@ fn renamed_operand(
         | Operand::Object(_)
         | Operand::Part(_, _)
         | Operand::Outgoing(_)
+        | Operand::GlobalRegisters
         | Operand::Block(_)
         | Operand::Symbol(_)
         | Operand::Mask => operand.copy(),
@@ -175,5 +178,6 @@ pub fn spilled_code(alloc: Global, s: &Spilling, i: &Instr) -> Result<Instr, All
     Ok(Instr {
         op: i.op,
         operands: renamed_operands(alloc, s, slot, i.operands.as_slice())?,
+        volatile: i.volatile,
     })
 }

@@ -16,9 +16,9 @@ use mir_func::block::{Block, Blocks};
 use mir_func::item::{Item, ItemKind, Items};
 use mir_func::location::Loc;
 use mir_func::position::{Origin, Pos, position_of};
-use rv64_instr::instr::Instr;
-use rv64_instr::place::Place;
-use rv64_instr::reg::Reg;
+use mir_func::rv64_instr_crate::instr::Instr;
+use mir_func::rv64_instr_crate::place::Place;
+use mir_func::rv64_instr_crate::reg::Reg;
 use std::alloc::{AllocError, Global};
 
 /// The blocks, with reloads, spills and scratch registers for spilled registers, and at the start of the first one the

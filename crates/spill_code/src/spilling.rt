@@ -5,7 +5,7 @@ ghost use Rattle.spill_code.specs.Rewrite.{slot_of};
 
 use base_ids::function_ids::SlotId;
 use base_list::List;
-use rv64_instr::reg::Reg;
+use mir_func::rv64_instr_crate::reg::Reg;
 
 /// A spilled register and the slot in which it lives (LLVM: the stack slot of a spilled register).
 #[derive(Clone, Copy, Debug, PartialEq, Eq)]

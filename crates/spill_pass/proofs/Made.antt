@@ -4,17 +4,17 @@ use Rattle.mir_func.specs.declared.block.Block.{Block}
 use Rattle.mir_func.specs.declared.debug_substitution.DebugSubstitution.{DebugSubstitution}
 use Rattle.mir_func.specs.Function.{Function}
 use Rattle.mir_func.specs.Sound.{AllItems, IsSound, HasForm}
-use Rattle.pass_trait.specs.declared.loss.Loss.{Loss}
-use Rattle.pass_trait.specs.Order.{IsInOrder}
-use Rattle.pass_trait.specs.Sizes.{greatest_number, item_count}
+use Rattle.spill_proof.specs.pass_trait.declared.loss.Loss.{Loss}
+use Rattle.spill_proof.specs.pass_trait.Order.{IsInOrder}
+use Rattle.spill_proof.specs.pass_trait.Sizes.{greatest_number, item_count}
 use Rattle.spill_code.specs.declared.spilling.SlotAssignment.{SlotAssignment}
 use Rattle.spill_code.specs.declared.spilling.Spilling.{Spilling}
 use Rattle.spill_code.specs.Room.{HaveRoom}
-use Rattle.spill_debug.specs.RewrittenDebugItems.{number_beyond, blocks_asked}
-use Rattle.spill_debug.specs.Lost.{AreScratchLosses}
-use Rattle.spill_select.specs.Left.{registers_left}
-use Rattle.spill_rule.specs.Choice.{homes_of, spilling_of, entry_of}
-use Rattle.spill_rule.specs.Rule.{Decides}
+use Rattle.spill_proof.specs.spill_debug.RewrittenDebugItems.{number_beyond, blocks_asked}
+use Rattle.spill_proof.specs.spill_debug.Lost.{AreScratchLosses}
+use Rattle.spill_proof.specs.spill_select.Left.{registers_left}
+use Rattle.spill_proof.specs.spill_rule.Choice.{homes_of, spilling_of, entry_of}
+use Rattle.spill_proof.specs.spill_rule.Rule.{Decides}
 use Rattle.spill_proof.proofs.Numbers.{beyond_most}
 use Rattle.spill_proof.specs.Whole.{spilled_by, where_spilled, whole}
 use Rattle.spill_proof.proofs.Joined.{joined_is_sound}

@@ -2,9 +2,9 @@
 use Rattle.std.proofs.Common.{◌≡◌, inl, inr, ℕ, zero, suc, ◌+◌, ◌<◌, ◌≤◌, List, length, Contains, slice_index, arith}
 use Rattle.std.proofs.lemmas.List.Kept.{AllPairs-filter, AllPairs-from_increasing}
 use Rattle.rv64_instr.specs.Reserve.{RESERVABLE}
-use Rattle.spill_select.specs.Incoming.{is_among}
-use Rattle.spill_rule.specs.Chosen.{IsReservable}
-use Rattle.spill_rule.proofs.Scratch.{kept_by}
+use Rattle.spill_proof.specs.spill_select.Incoming.{is_among}
+use Rattle.spill_proof.specs.spill_rule.Chosen.{IsReservable}
+use Rattle.spill_proof.proofs.spill_rule.Scratch.{kept_by}
 use Rattle.spill_proof.specs.Causes.{IsAscending}
 use Rattle.spill_proof.specs.Kept.{IsReserve}
 use Rattle.spill_pass.specs.Reserve.{reserve_of}

@@ -16,7 +16,7 @@ use Rattle.spill_code.specs.declared.spilling.Spilling.{Spilling}
 use Rattle.spill_code.specs.Rewrite.{first_defined, spilled_code, added, store, stores, loads_before, kind_items, spilled_item, spilled_items, spilled_block}
 use Rattle.spill_code.specs.Rewrite.{entry_stores, first_block, spilled_blocks}
 use Rattle.spill_code.specs.Room.{KindHasRoom, HasRoom, HaveRoom}
-use Rattle.spill_debug.specs.RewrittenDebugItems.{number_behind, items_asked, blocks_asked}
+use Rattle.spill_proof.specs.spill_debug.RewrittenDebugItems.{number_behind, items_asked, blocks_asked}
 
 all_left : {X : Type 0} (P : X → Type 0) (xs ys : List X) → All P (xs ++ ys) → All P xs
 all_left P [] ys h = All-nil P

@@ -2,14 +2,14 @@
 use Rattle.std.specs.Prelude.{◌≡◌, ℕ, List, ◌++◌}
 use Rattle.mir_func.specs.declared.block.Block.{Block}
 use Rattle.mir_func.specs.Function.{Function}
-use Rattle.pass_trait.specs.declared.loss.Loss.{Loss}
-use Rattle.pass_trait.specs.Order.{IsInOrder}
+use Rattle.spill_proof.specs.pass_trait.declared.loss.Loss.{Loss}
+use Rattle.spill_proof.specs.pass_trait.Order.{IsInOrder}
 use Rattle.spill_code.specs.declared.spilling.Spilling.{Spilling}
-use Rattle.spill_debug.specs.Lost.{AreScratchLosses}
-use Rattle.spill_select.specs.Incoming.{is_among}
-use Rattle.spill_select.specs.Left.{registers_left}
-use Rattle.spill_rule.specs.Choice.{spilling_of}
-use Rattle.spill_rule.specs.Rule.{Decides}
+use Rattle.spill_proof.specs.spill_debug.Lost.{AreScratchLosses}
+use Rattle.spill_proof.specs.spill_select.Incoming.{is_among}
+use Rattle.spill_proof.specs.spill_select.Left.{registers_left}
+use Rattle.spill_proof.specs.spill_rule.Choice.{spilling_of}
+use Rattle.spill_proof.specs.spill_rule.Rule.{Decides}
 use Rattle.spill_pass.specs.declared.plan.SpillPlan.{SpillPlan}
 
 -- it has the registers that are live into the function, and the rest is what the rule chooses

@@ -3,6 +3,12 @@
 //! the slot.
 #![tactic(auto)]
 
+pub use mir_type_facts as mir_type_facts_crate;
+pub use spill_proof::{
+    pass_salvage_crate as pass_salvage_crate, spill_debug_crate as spill_debug_crate,
+    spill_rule_crate as spill_rule_crate, spill_select_crate as spill_select_crate,
+};
+
 pub mod plan;
 pub mod reserve;
 pub mod spill;

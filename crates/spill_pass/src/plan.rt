@@ -2,26 +2,26 @@
 
 ghost use Rattle.std.specs.Prelude.{◌≡◌, ◌++◌, ◌+◌, ◌<◌, ◌^◌, map, IfOk};
 ghost use Rattle.mir_func.specs.Limits.{MAX_SLOTS};
-ghost use Rattle.pass_trait.specs.Sizes.{greatest};
+ghost use Rattle.spill_proof.specs.pass_trait.Sizes.{greatest};
 ghost use Rattle.spill_code.specs.Rewrite.{spilled_blocks};
 ghost use Rattle.spill_code.specs.Room.{HaveRoom};
-ghost use Rattle.spill_debug.specs.RewrittenDebugItems.{number_beyond, blocks_asked};
-ghost use Rattle.spill_rule.specs.Choice.{entry_of};
-ghost use Rattle.spill_select.specs.Incoming.{is_among};
+ghost use Rattle.spill_proof.specs.spill_debug.RewrittenDebugItems.{number_beyond, blocks_asked};
+ghost use Rattle.spill_proof.specs.spill_rule.Choice.{entry_of};
+ghost use Rattle.spill_proof.specs.spill_select.Incoming.{is_among};
 ghost use Rattle.spill_pass.specs.Plan.{IsPlan, AreAllLosses};
 
 use base_ids::function_ids::SlotId;
 use mir_func::block::{Block, Blocks};
 use mir_func::func::{Func, SlotIds};
-use pass_trait::loss::Losses;
 use rv64_instr::reg::{Reg, Registers};
 use spill_code::rewrite::spilled_blocks;
 use spill_code::spilling::{SlotAssignment, Spilling};
-use spill_debug::lost::scratch_losses;
-use spill_debug::marks::blocks_asked;
-use spill_select::choice::{choose, entry_of};
-use spill_select::incoming::incoming;
-use spill_select::left::registers_left;
+use spill_proof::pass_trait_crate::loss::Losses;
+use spill_proof::spill_debug_crate::lost::scratch_losses;
+use spill_proof::spill_debug_crate::marks::blocks_asked;
+use spill_proof::spill_select_crate::choice::{choose, entry_of};
+use spill_proof::spill_select_crate::incoming::incoming;
+use spill_proof::spill_select_crate::left::registers_left;
 use std::alloc::{AllocError, Global};
 
 /// The plan of spilling a function.

@@ -2,12 +2,12 @@
 
 ghost use Rattle.std.specs.Prelude.{◌≡◌, filter, IfOk};
 ghost use Rattle.rv64_instr.specs.Reserve.{RESERVABLE};
-ghost use Rattle.spill_select.specs.Incoming.{is_among};
+ghost use Rattle.spill_proof.specs.spill_select.Incoming.{is_among};
 ghost use Rattle.spill_pass.specs.Reserve.{reserve_of};
 
 use rv64_instr::reg::{Reg, Registers};
-use spill_select::among::is_among;
-use spill_select::scratch::register;
+use spill_proof::spill_select_crate::among::is_among;
+use spill_proof::spill_select_crate::scratch::register;
 use std::alloc::{AllocError, Global};
 
 /// The registers that may be spilled, in ascending order: the callee-saved registers x8, x9 and x18 to x27 (RISC-V ELF

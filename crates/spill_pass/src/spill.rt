@@ -3,8 +3,8 @@
 ghost use Rattle.std.specs.Prelude.{◌≡◌, ◌+◌, ◌<◌, ◌^◌, [], ◌∷◌, false, true, IfOk};
 ghost use Rattle.mir_func.specs.Limits.{MAX_SLOTS};
 ghost use Rattle.mir_func.specs.Sound.{AllItems, IsSound, HasForm};
-ghost use Rattle.pass_trait.specs.Sizes.{greatest, greatest_number, item_count};
-ghost use Rattle.spill_rule.specs.Laws.{one_spilled, same_spilled};
+ghost use Rattle.spill_proof.specs.pass_trait.Sizes.{greatest, greatest_number, item_count};
+ghost use Rattle.spill_proof.specs.spill_rule.Laws.{one_spilled, same_spilled};
 ghost use Rattle.spill_proof.specs.Step.{spill_step};
 ghost use Rattle.spill_proof.specs.Kept.{IsReserve, IsSpilledWithLosses};
 ghost use Rattle.spill_pass.specs.Reserve.{reserve_of};
@@ -13,13 +13,13 @@ ghost use Rattle.std.proofs.Common.{rules};
 use crate::plan::{blocks_in_slots, losses_of, plan_for, slots_with};
 use crate::reserve::reserve_of;
 use mir_func::func::Func;
-use mir_substitution::substitutions::Substitutions;
 use mir_type_facts::blocks::{know_forms, know_silent};
-use pass_salvage::fresh::fresh_number;
-use pass_trait::loss::Losses;
-use pass_trait::pass::Pass;
 use rv64_instr::reg::{Reg, Registers};
 use spill_proof::kept_laws::{spilled_keeps_following, spilled_keeps_sizes, spilled_keeps_steps};
+use spill_proof::mir_substitution_crate::substitutions::Substitutions;
+use spill_proof::pass_salvage_crate::fresh::fresh_number;
+use spill_proof::pass_trait_crate::loss::Losses;
+use spill_proof::pass_trait_crate::pass::Pass;
 use std::alloc::{AllocError, Global};
 
 /// Spills registers of a reserve (LLVM: spilling), as many as there are slots for. The reserve has those of the given

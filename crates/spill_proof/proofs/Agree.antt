@@ -4,9 +4,9 @@ use Rattle.std.proofs.Common.{ap}
 use Rattle.mir_func.specs.Function.{Function}
 use Rattle.pass_trait.specs.declared.loss.Reason.TheVariants.{NoScratch, CallNamed, EntryLoop}
 use Rattle.pass_trait.specs.Causes.{is_named}
-use Rattle.spill_rule.specs.Choice.{is_bound, is_looped, lacks_scratch, reason_of, is_free, candidates, room, next_slot, homes_from, homes_of}
-use Rattle.spill_rule.specs.Rule.{IsLiveIn, Decides}
-use Rattle.spill_rule.specs.Laws.{filter_same, agreeing}
+use Rattle.spill_select.specs.spill_rule.Choice.{is_bound, is_looped, lacks_scratch, reason_of, is_free, candidates, room, next_slot, homes_from, homes_of}
+use Rattle.spill_select.specs.spill_rule.Rule.{IsLiveIn, Decides}
+use Rattle.spill_select.specs.spill_rule.Laws.{filter_same, agreeing}
 
 module _ (reserve : List ℕ) (f : Function) (live live' : ℕ → Bool) (decides : Decides reserve f live) (decides' : Decides reserve f live') where
   pub agree : (r : ℕ) → Contains reserve r → live r ≡ live' r

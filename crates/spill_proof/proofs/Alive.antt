@@ -7,8 +7,8 @@ use Rattle.mir_func.specs.Graph.{program_of, block_start}
 use Rattle.mir_func.specs.Strip.{stripped_blocks, stripped}
 use Rattle.sem_mir.specs.InitialState.{first_of}
 use Rattle.sem_mir.specs.Live.{Live}
-use Rattle.pass_liveness.proofs.Stripped.{live_stripped}
-use Rattle.spill_rule.specs.Rule.{IsLiveIn}
+use Rattle.spill_select.proofs.pass_liveness.Stripped.{live_stripped}
+use Rattle.spill_select.specs.spill_rule.Rule.{IsLiveIn}
 use Rattle.spill_proof.specs.Alive.{AliveAlike, AliveBare}
 
 first_bare : (bs : List Block) → first_of (stripped_blocks bs) ≡ first_of bs

@@ -16,10 +16,10 @@ use Rattle.mir_func.specs.Sound.{items_of}
 use Rattle.mir_func.specs.Strip.{stripped_items, stripped_block, stripped_blocks, stripped}
 use Rattle.sem_mir.specs.InitialState.{first_of}
 use Rattle.pass_trait.specs.declared.loss.Reason.TheVariants.{NoScratch, CallNamed, EntryLoop}
-use Rattle.pass_trait.specs.Causes.{names, is_named, scratch_of}
+use Rattle.pass_trait.specs.Causes.{names, names_implicitly, is_named, scratch_of}
 use Rattle.pass_trait.specs.Rule.{item}
-use Rattle.spill_rule.specs.Choice.{is_added, is_bound, goes, is_looped, is_free, candidates, room, next_slot, homes_from, homes_of}
-use Rattle.spill_rule.specs.Choice.{calls_or_ends, first_scratch, second_scratch, spilling_of}
+use Rattle.spill_select.specs.spill_rule.Choice.{is_added, is_bound, goes, is_looped, is_free, candidates, room, next_slot, homes_from, homes_of}
+use Rattle.spill_select.specs.spill_rule.Choice.{first_scratch, second_scratch, spilling_of}
 use Rattle.spill_proof.specs.WholeLaws.{ChoiceIsBare}
 
 -- a mark or a phi
@@ -61,6 +61,11 @@ no_names r (Code i n) h = absurd h
 no_names r (Mark v m) h = refl
 no_names r (Phi p n) h = refl
 
+no_implicit_names : (r : ℕ) (k : ItemKind) → IsDebug k → names_implicitly r k ≡ false
+no_implicit_names r (Code i n) h = absurd h
+no_implicit_names r (Mark v m) h = refl
+no_implicit_names r (Phi p n) h = refl
+
 no_goes : (n : ℕ) (k : ItemKind) → IsDebug k → goes n k ≡ false
 no_goes n (Code i m) h = absurd h
 no_goes n (Mark v m) h = refl
@@ -71,9 +76,9 @@ module _ (f : Function) where
   named_bare r = any_blocks (λ k o. names r k) (record { code = λ i k o. refl; debug = λ k o h. no_names r k h }) f.blocks
 
   bound_bare : (r : ℕ) → is_bound (stripped f) r ≡ is_bound f r
-  bound_bare r = any_blocks (λ k o. names r k && (calls_or_ends k || is_added o)) (record {
+  bound_bare r = any_blocks (λ k o. names_implicitly r k || (names r k && is_added o)) (record {
     code = λ i k o. refl;
-    debug = λ k o h. ap (λ (b : Bool). b && (calls_or_ends k || is_added o)) (no_names r k h);
+    debug = λ k o h. (let a = no_implicit_names r k h in let b = no_names r k h in λ j. a j || (b j && is_added o));
   }) f.blocks
 
   first_bare : (bs : List Block) → first_of (stripped_blocks bs) ≡ first_of bs

@@ -29,10 +29,10 @@ use Rattle.spill_code.specs.declared.spilling.SlotAssignment.{SlotAssignment}
 use Rattle.spill_code.specs.declared.spilling.Spilling.{Spilling}
 use Rattle.spill_code.specs.Rewrite.{slot_of, store, added, spilled_item, spilled_items, spilled_block, entry_stores, spilled_blocks}
 use Rattle.spill_debug.specs.RewrittenDebugItems.{kind_asked, next_number, number_behind, items_asked, blocks_asked}
-use Rattle.spill_rule.specs.Choice.{homes_of, first_scratch, second_scratch, spilling_of, entry_of}
+use Rattle.spill_select.specs.spill_rule.Choice.{homes_of, first_scratch, second_scratch, spilling_of, entry_of}
 use Rattle.spill_debug.specs.Lost.{LosesScratch}
 use Rattle.pass_trait.specs.Causes.{scratch_of}
-use Rattle.spill_rule.specs.Rule.{Decides}
+use Rattle.spill_select.specs.spill_rule.Rule.{Decides}
 use Rattle.spill_proof.specs.Whole.{spilled_by, where_spilled, whole}
 use Rattle.spill_proof.specs.Step.{AsksForHome, spill_debug}
 use Rattle.spill_proof.specs.Become.{ItemsBecome}

@@ -23,11 +23,11 @@ use Rattle.spill_code.specs.declared.spilling.Spilling.{Spilling}
 use Rattle.spill_code.specs.Rewrite.{slot_of}
 use Rattle.spill_debug.specs.RewrittenDebugItems.{is_scratch}
 use Rattle.spill_debug.specs.Lost.{LosesScratch, is_silent}
-use Rattle.spill_rule.specs.Choice.{lacks_scratch, is_bound, is_looped, reason_of, is_free, candidates, room, chosen, next_slot, homes_from, homes_of}
-use Rattle.spill_rule.specs.Choice.{first_scratch, second_scratch, spilling_of, entry_of}
-use Rattle.spill_rule.specs.Rule.{Decides}
-use Rattle.spill_rule.proofs.Scratch.{kept_by}
-use Rattle.spill_rule.specs.Laws.{from_take}
+use Rattle.spill_select.specs.spill_rule.Choice.{lacks_scratch, is_bound, is_looped, reason_of, is_free, candidates, room, chosen, next_slot, homes_from, homes_of}
+use Rattle.spill_select.specs.spill_rule.Choice.{first_scratch, second_scratch, spilling_of, entry_of}
+use Rattle.spill_select.specs.spill_rule.Rule.{Decides}
+use Rattle.spill_select.proofs.spill_rule.Scratch.{kept_by}
+use Rattle.spill_select.specs.spill_rule.Laws.{from_take}
 use Rattle.spill_proof.specs.Whole.{spilled_by, where_spilled, whole}
 use Rattle.spill_proof.proofs.Slots.{below_next}
 use Rattle.spill_proof.specs.Step.{spill_debug}

@@ -5,11 +5,11 @@ use Rattle.std.proofs.Common.{refl, sym, subst, arith, eqb-true}
 use Rattle.mir_func.specs.Function.{Function}
 use Rattle.pass_trait.specs.Causes.{is_named}
 use Rattle.spill_code.specs.Rewrite.{slot_of}
-use Rattle.spill_simulation.specs.MaySpill.{IsNoScratch}
-use Rattle.spill_rule.specs.Choice.{is_free, reason_of, candidates, room, chosen, next_slot, homes_from, homes_of, first_scratch, second_scratch, spilling_of}
-use Rattle.spill_rule.specs.Chosen.{IsReservable}
-use Rattle.spill_rule.proofs.Scratch.{CANDIDATES, kept_by, saved, kept_registers, not_small}
-use Rattle.spill_rule.specs.Laws.{from_take}
+use Rattle.spill_select.specs.spill_simulation.MaySpill.{IsNoScratch}
+use Rattle.spill_select.specs.spill_rule.Choice.{is_free, reason_of, candidates, room, chosen, next_slot, homes_from, homes_of, first_scratch, second_scratch, spilling_of}
+use Rattle.spill_select.specs.spill_rule.Chosen.{IsReservable}
+use Rattle.spill_select.proofs.spill_rule.Scratch.{CANDIDATES, kept_by, saved, kept_registers, not_small}
+use Rattle.spill_select.specs.spill_rule.Laws.{from_take}
 
 -- what holds of each register of a list holds of one that lives in a slot
 slot_from : (P : ℕ → Type 0) (m : ℕ) (rs : List ℕ) → ((r : ℕ) → Contains rs r → P r) → (r n : ℕ) → slot_of (homes_from m rs) r ≡ Some n → P r

@@ -19,8 +19,8 @@ use Rattle.spill_code.specs.Rewrite.{slot_of}
 use Rattle.spill_debug.specs.RewrittenDebugItems.{is_scratch, is_scratch_place, place_left, mark_asked}
 use Rattle.spill_debug.specs.RewrittenDebugItems.{kind_asked, next_number, number_behind, items_asked, blocks_asked}
 use Rattle.spill_debug.proofs.AskedSound.{each_block}
-use Rattle.spill_simulation.specs.MaySpill.{IsNoScratch}
-use Rattle.spill_rule.specs.Chosen.{AsksElsewhere}
+use Rattle.spill_select.specs.spill_simulation.MaySpill.{IsNoScratch}
+use Rattle.spill_select.specs.spill_rule.Chosen.{AsksElsewhere}
 
 module _ (s : Spilling) (apart : (r n : ℕ) → slot_of s.homes r ≡ Some n → IsNoScratch s r) where
   or_left : (a b : Bool) → (a || b) ≡ false → a ≡ false

@@ -21,7 +21,7 @@ use Rattle.mir_func.specs.Resolve.{resolve}
 use Rattle.mir_func.specs.Sound.{AllItems, IsSound}
 use Rattle.sem_mir.specs.Align.{ByItems, ByEnds}
 use Rattle.sem_mir.specs.InitialState.{first_of}
-use Rattle.sem_mir.specs.Follow.{Among, none, left, InOrder, next_rank, KindFits, MarkFits, OnRow, Counts, GoesTo, IsMetApart}
+use Rattle.sem_mir.specs.Follow.{Among, none, left, InOrder, next_rank, KindFits, StaysVolatile, MarkFits, OnRow, Counts, GoesTo, IsMetApart}
 use Rattle.sem_mir.specs.Follow.{Shape, Follows}
 use Rattle.sem_mir.specs.Follow.{IsEnd, EndIsKept, HasWholeEnds}
 use Rattle.sem_mir.specs.Follow.Among.{same as still}
@@ -126,6 +126,7 @@ module _ (least : ℕ) where
             (w.0, w.1, code_on least fs gs rel (resolve subs) w.0 w.1 w.2 (on_code (GoesTo (first_of src)) w.1.kind w.3), w.3));
         order = order_on fs gs rel shape.order;
         items = each_on (λ n kind o. KindFits srcp kind n o) (λ n v r k o h. tt) fs gs rel shape.items;
+        volatile = each_on (λ n kind o. StaysVolatile srcp kind o) (λ n v r k o h. tt) fs gs rel shape.volatile;
         stores = λ b member p i home at save o. stores_on b member p i home at save o;
         marks = each_on (λ n kind o. MarkFits kind o) mark_fits fs gs rel shape.marks;
       } where

@@ -12,12 +12,12 @@ use Rattle.spill_code.specs.declared.spilling.Spilling.{Spilling}
 use Rattle.spill_debug.specs.RewrittenDebugItems.{asked}
 use Rattle.spill_debug.proofs.AskedSound.{asked_is_sound}
 use Rattle.spill_proof.proofs.Stripped.{asked_is_stripped}
-use Rattle.spill_simulation.specs.Follows.{MaySpill}
-use Rattle.spill_simulation.proofs.Following.{spilled_follows}
+use Rattle.spill_select.specs.spill_simulation.Follows.{MaySpill}
+use Rattle.spill_select.proofs.spill_simulation.Following.{spilled_follows}
 use Rattle.spill_proof.proofs.Sound.{spilled_is_sound}
-use Rattle.spill_rule.specs.Choice.{homes_of, spilling_of, entry_of}
-use Rattle.spill_rule.specs.Chosen.{AsksElsewhere}
-use Rattle.spill_rule.proofs.Chosen.{chosen_may_spill}
+use Rattle.spill_select.specs.spill_rule.Choice.{homes_of, spilling_of, entry_of}
+use Rattle.spill_select.specs.spill_rule.Chosen.{AsksElsewhere}
+use Rattle.spill_select.proofs.spill_rule.Chosen.{chosen_may_spill}
 use Rattle.spill_proof.proofs.Low.{low_function}
 use Rattle.spill_proof.proofs.Following.{asked_follows, both, all_numbers}
 use Rattle.spill_proof.specs.Whole.{spilled_by, where_spilled, whole}

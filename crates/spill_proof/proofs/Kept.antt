@@ -13,9 +13,9 @@ use Rattle.pass_trait.specs.Steps.{KeepsSteps}
 use Rattle.spill_select.specs.Left.{registers_left}
 use Rattle.spill_debug.specs.RewrittenDebugItems.{asked}
 use Rattle.spill_proof.proofs.Stripped.{asked_is_stripped}
-use Rattle.spill_rule.specs.Choice.{homes_of, spilling_of}
-use Rattle.spill_rule.specs.Chosen.{AreDistinct}
-use Rattle.spill_rule.specs.Rule.{Decides}
+use Rattle.spill_select.specs.spill_rule.Choice.{homes_of, spilling_of}
+use Rattle.spill_select.specs.spill_rule.Chosen.{AreDistinct}
+use Rattle.spill_select.specs.spill_rule.Rule.{Decides}
 use Rattle.spill_proof.specs.Whole.{whole}
 use Rattle.spill_proof.specs.JoinedLaws.{MayBeSpilled}
 use Rattle.spill_proof.proofs.Joined.{joined_follows, joined_is_sound}

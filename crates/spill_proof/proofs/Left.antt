@@ -5,7 +5,6 @@ use Rattle.std.proofs.lemmas.Bool.{and_parts, and_from, or_left, or_right, lt-lt
 use Rattle.std.proofs.lemmas.List.Kept.{AllPairs-filter}
 use Rattle.rv64_instr.specs.declared.place.Place.{Place}
 use Rattle.rv64_instr.specs.declared.place.Place.TheVariants.{Register}
-use Rattle.rv64_instr.specs.LocationEffects.{has_implicit_uses}
 use Rattle.rv64_instr.specs.Row.{Row, Branches, Jumps, row_of}
 use Rattle.mir_func.specs.declared.block.Block.{Block}
 use Rattle.mir_func.specs.declared.debug_substitution.DebugSubstitution.{DebugSubstitution}
@@ -27,16 +26,16 @@ use Rattle.sem_mir.specs.Follow.{OnRow, GoesTo}
 use Rattle.sem_mir.specs.Live.{Live, used, later}
 use Rattle.pass_trait.specs.declared.loss.Reason.{Reason}
 use Rattle.pass_trait.specs.declared.loss.Reason.TheVariants.{Removed, WrongPlace, Scratch, Bypassed, Unreachable, NoScratch, CallNamed, EntryLoop, NoSlot}
-use Rattle.pass_trait.specs.Causes.{names, is_named, scratch_of, Prevents, IsFirstCause}
+use Rattle.pass_trait.specs.Causes.{names, names_implicitly, is_named, scratch_of, Prevents, IsFirstCause}
 use Rattle.pass_trait.specs.Change.{Change}
 use Rattle.pass_trait.specs.Order.{reason_rank}
 use Rattle.pass_trait.specs.Rule.{Rule}
 use Rattle.spill_code.specs.declared.spilling.SlotAssignment.{SlotAssignment}
 use Rattle.spill_code.specs.Rewrite.{slot_of}
-use Rattle.spill_rule.specs.Choice.{is_added, binds, is_bound, row_goes, goes, is_looped, lacks_scratch, reason_of, is_free, candidates, room, chosen}
-use Rattle.spill_rule.specs.Choice.{calls_or_ends, next_slot}
-use Rattle.spill_rule.specs.Choice.{homes_from, homes_of, spilling_of, entry_of}
-use Rattle.spill_rule.specs.Rule.{Decides}
+use Rattle.spill_select.specs.spill_rule.Choice.{is_added, binds, is_bound, row_goes, goes, is_looped, lacks_scratch, reason_of, is_free, candidates, room, chosen}
+use Rattle.spill_select.specs.spill_rule.Choice.{next_slot}
+use Rattle.spill_select.specs.spill_rule.Choice.{homes_from, homes_of, spilling_of, entry_of}
+use Rattle.spill_select.specs.spill_rule.Rule.{Decides}
 use Rattle.spill_proof.specs.Whole.{spilled_by, where_spilled}
 use Rattle.spill_proof.proofs.Slots.{how_many}
 use Rattle.spill_select.specs.Left.{first_reason, or_no_slot, why_left}
@@ -134,17 +133,7 @@ kind_led n (Code i m) h = row_led n (row_of i) h
 kind_led n (Mark v m) h = absurd h
 kind_led n (Phi p m) h = absurd h
 
--- ---- calls, code that ends a function and code that was added
-
-called : (k : ItemKind) → calls_or_ends k ≡ true → OnRow (λ (row : Row). has_implicit_uses row ≡ true) k
-called (Code i n) h = h
-called (Mark v m) h = cc
-called (Phi p n) h = cc
-
-calling : (k : ItemKind) → OnRow (λ (row : Row). has_implicit_uses row ≡ true) k → calls_or_ends k ≡ true
-calling (Code i n) h = h
-calling (Mark v m) h = absurd h
-calling (Phi p n) h = absurd h
+-- ---- code that was added
 
 was_added : (o : Origin) → is_added o ≡ true → o ≡ Before (position_of o)
 was_added (Before p) h = refl
@@ -197,21 +186,19 @@ module _ (reserve : List ℕ) (live : ℕ → Bool) (k : ℕ) (f : Function) (su
   bound r e =
       let w = some_by (binds r) (items_of f.blocks) e in
       let i : Item = w.0 in
-      let t = and_parts (names r i.kind) (calls_or_ends i.kind || is_added i.origin) w.2 in
-      let how : OnRow (λ (row : Row). has_implicit_uses row ≡ true) i.kind ⊎ (i.origin ≡ Before (position_of i.origin)) =
-      elim (or_cases (calls_or_ends i.kind) (is_added i.origin) t.1) [
-        | inl h ↦ inl (called i.kind h)
-        | inr h ↦ inr (was_added i.origin h)
+      let how : (names_implicitly r i.kind ≡ true) ⊎ ((names r i.kind ≡ true) × (i.origin ≡ Before (position_of i.origin))) =
+      elim (or_cases (names_implicitly r i.kind) (names r i.kind && is_added i.origin) w.2) [
+        | inl h ↦ inl h
+        | inr h ↦ (let t = and_parts (names r i.kind) (is_added i.origin) h in inr (t.0, was_added i.origin t.1))
       ] in
-      (i, w.1, t.0, how)
+      (i, w.1, how)
 
   unbound : (r : ℕ) → is_bound f r ≡ false → Holds CallNamed r → ⊥
-  unbound r e (i, at, named, how) = not_both (is_bound f r) e
-      (any_by (binds r) (items_of f.blocks) i at (and_from (names r i.kind) (calls_or_ends i.kind || is_added i.origin) named (binding how))) where
-        binding : OnRow (λ (row : Row). has_implicit_uses row ≡ true) i.kind ⊎ (i.origin ≡ Before (position_of i.origin)) →
-            (calls_or_ends i.kind || is_added i.origin) ≡ true
-        binding (inl h) = or_left (calls_or_ends i.kind) (is_added i.origin) (calling i.kind h)
-        binding (inr h) = or_right (calls_or_ends i.kind) (is_added i.origin) (ap is_added h)
+  unbound r e (i, at, how) = not_both (is_bound f r) e (any_by (binds r) (items_of f.blocks) i at (binding how)) where
+    binding : (names_implicitly r i.kind ≡ true) ⊎ ((names r i.kind ≡ true) × (i.origin ≡ Before (position_of i.origin))) → binds r i ≡ true
+    binding (inl h) = or_left (names_implicitly r i.kind) (names r i.kind && is_added i.origin) h
+    binding (inr (named, added)) = or_right (names_implicitly r i.kind) (names r i.kind && is_added i.origin)
+        (and_from (names r i.kind) (is_added i.origin) named (ap is_added added))
 
   looped : (r : ℕ) → Contains reserve r → (live r && is_looped f) ≡ true → Holds EntryLoop r
   looped r in_reserve e =

@@ -31,3 +31,5 @@ pub mod Causes
 pub mod Left
 pub mod Losses
 pub mod Kept
+pub use Rattle.spill_debug.proofs as spill_debug
+pub use Rattle.spill_select.proofs.spill_rule as spill_rule

@@ -26,8 +26,8 @@ use Rattle.spill_code.specs.declared.spilling.Spilling.{Spilling}
 use Rattle.spill_debug.specs.Lost.{LosesScratch, AreScratchLosses}
 use Rattle.spill_debug.proofs.Silenced.{all_of}
 use Rattle.spill_select.specs.Left.{why_left, loss_for, registers_left}
-use Rattle.spill_rule.specs.Choice.{homes_of, spilling_of}
-use Rattle.spill_rule.specs.Rule.{Decides}
+use Rattle.spill_select.specs.spill_rule.Choice.{homes_of, spilling_of}
+use Rattle.spill_select.specs.spill_rule.Rule.{Decides}
 use Rattle.spill_proof.specs.Step.{spill_debug}
 use Rattle.spill_proof.proofs.Agree.{homes_same}
 use Rattle.spill_proof.specs.Causes.{IsAscending}

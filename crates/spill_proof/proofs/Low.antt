@@ -15,7 +15,7 @@ use Rattle.mir_func.specs.declared.variable.MarkValue.TheVariants.{Nothing, Cons
 use Rattle.mir_func.specs.Function.{Function}
 use Rattle.mir_func.specs.Resolve.{is_pair, entry_of, Ends, at, by, resolve}
 use Rattle.mir_func.specs.Sound.{items_of, AllItems, number_of}
-use Rattle.mir_substitution.proofs.Chains.{resolve_ends, ends_resolve}
+use Rattle.pass_trait.proofs.mir_substitution.Chains.{resolve_ends, ends_resolve}
 use Rattle.pass_trait.specs.Sizes.{greatest, numbers_of, greatest_number}
 use Rattle.pass_salvage.proofs.Greatest.{greatest_append}
 

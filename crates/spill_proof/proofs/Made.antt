@@ -8,11 +8,11 @@ use Rattle.spill_code.specs.declared.spilling.Spilling.{Spilling}
 use Rattle.spill_code.specs.Rewrite.{spilled_blocks}
 use Rattle.spill_debug.specs.RewrittenDebugItems.{blocks_asked}
 use Rattle.spill_proof.proofs.Stripped.{asked_is_stripped, spilled_is_stripped}
-use Rattle.spill_rule.specs.Choice.{homes_of, spilling_of, entry_of, spilled}
+use Rattle.spill_select.specs.spill_rule.Choice.{homes_of, spilling_of, entry_of, spilled}
 use Rattle.spill_proof.specs.Whole.{spilled_by, where_spilled}
 use Rattle.spill_proof.proofs.Bare.{choice_is_bare}
 use Rattle.spill_proof.specs.StepLaws.{SpilledCodeIsMade}
-use Rattle.spill_rule.proofs.RuleFollows.{blocks_same}
+use Rattle.spill_select.proofs.spill_rule.RuleFollows.{blocks_same}
 
 module _ (reserve : List ℕ) (live : ℕ → Bool) (k : ℕ) (f : Function) where
   abbrev s : Spilling

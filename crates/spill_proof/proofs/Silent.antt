@@ -16,15 +16,15 @@ use Rattle.sem_mir.specs.Step.{do_item, pair_value}
 use Rattle.sem_mir.specs.Effects.{EndAlike, FallsInto}
 use Rattle.sem_mir.specs.Follow.{OnRow, Counts, MarkFits}
 use Rattle.sem_mir.proofs.Outcomes.{alike_weaker}
-use Rattle.sem_simulation.specs.MatchStates.{OutcomesAlike}
-use Rattle.sem_simulation.proofs.Outcomes.{alike_of}
+use Rattle.pass_trait.specs.sem_simulation.MatchStates.{OutcomesAlike}
+use Rattle.pass_trait.proofs.sem_simulation.Outcomes.{alike_of}
 use Rattle.pass_trait.specs.Change.{change}
 use Rattle.pass_trait.specs.Simulation.{PreservesSimulation}
-use Rattle.sem_agreement.specs.Agreement.{Alike, DebugLessDef, HeldAfter, GenDefs, NumbersHeld, Depends}
-use Rattle.sem_agreement.proofs.Held.{held_fewer, held_itself}
-use Rattle.sem_agreement.proofs.Told.{tells_itself}
-use Rattle.sem_agreement.proofs.Items.{item_both, mark_both, phi_both, phi_second}
-use Rattle.sem_agreement.proofs.Views.{shows_alike}
+use Rattle.pass_salvage.specs.sem_agreement.Agreement.{Alike, DebugLessDef, HeldAfter, GenDefs, NumbersHeld, Depends}
+use Rattle.pass_salvage.proofs.sem_agreement.Held.{held_fewer, held_itself}
+use Rattle.pass_salvage.proofs.sem_agreement.Told.{tells_itself}
+use Rattle.pass_salvage.proofs.sem_agreement.Items.{item_both, mark_both, phi_both, phi_second}
+use Rattle.pass_salvage.proofs.sem_agreement.Views.{shows_alike}
 use Rattle.pass_salvage.proofs.NumberOff.{Everywhere}
 use Rattle.pass_salvage.proofs.EditRuns.{Keeps}
 use Rattle.pass_salvage.proofs.EditFollows.{Allows, follows_edited}

@@ -21,11 +21,11 @@ use Rattle.spill_code.specs.declared.spilling.SlotAssignment.{SlotAssignment}
 use Rattle.spill_code.specs.declared.spilling.Spilling.{Spilling}
 use Rattle.spill_code.specs.Rewrite.{entry_stores, spilled_blocks}
 use Rattle.spill_debug.specs.RewrittenDebugItems.{blocks_asked, number_beyond}
-use Rattle.spill_rule.specs.Choice.{is_free, reason_of, candidates, room, chosen, next_slot, homes_from, homes_of, first_scratch, second_scratch}
-use Rattle.spill_rule.specs.Choice.{spilling_of, entry_of}
-use Rattle.spill_rule.specs.Chosen.{IsReservable}
-use Rattle.spill_rule.proofs.Scratch.{CANDIDATES, kept_by, reservable_real}
-use Rattle.spill_rule.specs.Laws.{from_take}
+use Rattle.spill_select.specs.spill_rule.Choice.{is_free, reason_of, candidates, room, chosen, next_slot, homes_from, homes_of, first_scratch, second_scratch}
+use Rattle.spill_select.specs.spill_rule.Choice.{spilling_of, entry_of}
+use Rattle.spill_select.specs.spill_rule.Chosen.{IsReservable}
+use Rattle.spill_select.proofs.spill_rule.Scratch.{CANDIDATES, kept_by, reservable_real}
+use Rattle.spill_select.specs.spill_rule.Laws.{from_take}
 use Rattle.spill_proof.specs.Whole.{spilled_by, where_spilled}
 use Rattle.spill_proof.proofs.Slots.{how_many}
 use Rattle.spill_proof.specs.Sizes.{WholeKeepsSizes}

@@ -8,7 +8,7 @@ use Rattle.mir_func.specs.Limits.{MAX_SLOTS}
 use Rattle.mir_func.specs.Sound.{AreApart}
 use Rattle.pass_trait.specs.Sizes.{greatest}
 use Rattle.spill_code.specs.declared.spilling.SlotAssignment.{SlotAssignment}
-use Rattle.spill_rule.specs.Choice.{room, chosen, candidates, next_slot, homes_from, homes_of, spilling_of}
+use Rattle.spill_select.specs.spill_rule.Choice.{room, chosen, candidates, next_slot, homes_from, homes_of, spilling_of}
 use Rattle.spill_proof.specs.Sound.{slots_now}
 
 abbrev slot : SlotAssignment → ℕ

@@ -44,12 +44,12 @@ use Rattle.spill_code.specs.Rewrite.{slot_of, stand_in, use_now, set_in, def_now
 use Rattle.spill_code.specs.Rewrite.{spilled_code, load, store, added, loads}
 use Rattle.spill_code.specs.Rewrite.{stores, two_loads, code_items, place_in, spilled_place, kind_items, spilled_item, spilled_items, spilled_block}
 use Rattle.spill_code.specs.Rewrite.{entry_stores, first_block, spilled_blocks}
-use Rattle.spill_simulation.specs.MaySpill.{uses_in, defs_in, FitsCode, Fits, AreHomes}
-use Rattle.spill_simulation.specs.Follows.{MaySpill}
-use Rattle.spill_simulation.proofs.Explicit.{first_from, other_from, used_is, other_is, defined_is, explicit}
-use Rattle.spill_simulation.proofs.Near.{keeps_zero}
-use Rattle.spill_simulation.proofs.Rows.{renamed_base, renamed_row, row_renamed}
-use Rattle.spill_simulation.proofs.Shape.{kept_def}
+use Rattle.spill_select.specs.spill_simulation.MaySpill.{uses_in, defs_in, FitsCode, Fits, AreHomes}
+use Rattle.spill_select.specs.spill_simulation.Follows.{MaySpill}
+use Rattle.spill_select.proofs.spill_simulation.Explicit.{first_from, other_from, used_is, other_is, defined_is, explicit}
+use Rattle.spill_select.proofs.spill_simulation.Near.{keeps_zero}
+use Rattle.spill_select.proofs.spill_simulation.Rows.{renamed_base, renamed_row, row_renamed}
+use Rattle.spill_select.proofs.spill_simulation.Shape.{kept_def}
 use Rattle.spill_debug.proofs.Grown.{IsExtra, IsLike, Grown, none, grows, BlocksGrow, no_blocks, next_block, sound_grown}
 use Rattle.spill_proof.specs.Sound.{slots_now, SpilledIsSound}
 

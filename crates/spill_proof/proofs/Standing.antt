@@ -14,8 +14,8 @@ use Rattle.mir_func.specs.Graph.{fetch_in}
 use Rattle.mir_func.specs.Sound.{AreApart, ids_of, items_of}
 use Rattle.sem_mir.proofs.Reading.{found, item_front}
 use Rattle.pass_trait.specs.Rule.{StandsAt}
-use Rattle.spill_simulation.proofs.Places.{stands_at, contains_at}
-use Rattle.spill_rule.proofs.Chosen.{item_in}
+use Rattle.spill_select.proofs.spill_simulation.Places.{stands_at, contains_at}
+use Rattle.spill_select.proofs.spill_rule.Chosen.{item_in}
 
 -- ---- tests of lists
 

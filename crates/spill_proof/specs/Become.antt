@@ -6,7 +6,7 @@ use Rattle.mir_func.specs.Sound.{IsSound}
 use Rattle.pass_trait.specs.Change.{change}
 use Rattle.pass_trait.specs.Debug.{BlocksBecome}
 use Rattle.pass_trait.specs.Sizes.{greatest_number}
-use Rattle.spill_rule.specs.Rule.{Decides}
+use Rattle.spill_select.specs.spill_rule.Rule.{Decides}
 use Rattle.spill_proof.specs.Whole.{whole}
 use Rattle.spill_proof.specs.Step.{spill_debug}
 

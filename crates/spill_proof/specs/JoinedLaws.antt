@@ -7,9 +7,9 @@ use Rattle.pass_trait.specs.Change.{change}
 use Rattle.pass_trait.specs.Simulation.{PreservesSimulation}
 use Rattle.pass_trait.specs.Sizes.{greatest_number}
 use Rattle.spill_debug.specs.RewrittenDebugItems.{asked}
-use Rattle.spill_rule.specs.Choice.{spilling_of}
-use Rattle.spill_rule.specs.Chosen.{IsReservable, AreDistinct}
-use Rattle.spill_rule.specs.Rule.{Decides}
+use Rattle.spill_select.specs.spill_rule.Choice.{spilling_of}
+use Rattle.spill_select.specs.spill_rule.Chosen.{IsReservable, AreDistinct}
+use Rattle.spill_select.specs.spill_rule.Rule.{Decides}
 use Rattle.spill_proof.specs.Whole.{whole}
 
 -- The hypotheses of spilling: a sound function whose code has the required forms, a reserve of distinct registers that may be spilled, a

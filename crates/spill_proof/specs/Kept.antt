@@ -14,9 +14,9 @@ use Rattle.spill_code.specs.declared.spilling.SlotAssignment.{SlotAssignment}
 use Rattle.spill_code.specs.declared.spilling.Spilling.{Spilling}
 use Rattle.spill_debug.specs.Lost.{AreScratchLosses}
 use Rattle.spill_select.specs.Left.{registers_left}
-use Rattle.spill_rule.specs.Choice.{homes_of, spilling_of}
-use Rattle.spill_rule.specs.Chosen.{IsReservable}
-use Rattle.spill_rule.specs.Rule.{Decides}
+use Rattle.spill_select.specs.spill_rule.Choice.{homes_of, spilling_of}
+use Rattle.spill_select.specs.spill_rule.Chosen.{IsReservable}
+use Rattle.spill_select.specs.spill_rule.Rule.{Decides}
 use Rattle.spill_proof.specs.Whole.{whole}
 use Rattle.spill_proof.specs.Step.{spill_step}
 use Rattle.spill_proof.specs.Causes.{IsAscending}

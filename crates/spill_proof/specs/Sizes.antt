@@ -4,7 +4,7 @@ use Rattle.mir_func.specs.declared.debug_substitution.DebugSubstitution.{DebugSu
 use Rattle.mir_func.specs.Function.{Function}
 use Rattle.pass_trait.specs.Change.{change}
 use Rattle.pass_trait.specs.Sizes.{greatest_number, KeepsSizes}
-use Rattle.spill_rule.specs.Chosen.{IsReservable}
+use Rattle.spill_select.specs.spill_rule.Chosen.{IsReservable}
 use Rattle.spill_proof.specs.Whole.{whole}
 
 -- spilling keeps the size bounds with factor 4 and count 1, if fresh numbers begin above the greatest one

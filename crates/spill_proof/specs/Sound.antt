@@ -7,7 +7,7 @@ use Rattle.mir_func.specs.Sound.{AreApart, IsSound}
 use Rattle.spill_code.specs.declared.spilling.SlotAssignment.{SlotAssignment}
 use Rattle.spill_code.specs.declared.spilling.Spilling.{Spilling}
 use Rattle.spill_code.specs.Rewrite.{spilled_blocks}
-use Rattle.spill_simulation.specs.Follows.{MaySpill}
+use Rattle.spill_select.specs.spill_simulation.Follows.{MaySpill}
 
 -- the function's slots, and then the new ones
 abbrev pub slots_now : Spilling → Function → List ℕ

@@ -16,8 +16,8 @@ use Rattle.spill_code.specs.declared.spilling.SlotAssignment.{SlotAssignment}
 use Rattle.spill_code.specs.Rewrite.{slot_of}
 use Rattle.spill_debug.specs.RewrittenDebugItems.{number_behind}
 use Rattle.spill_debug.specs.Lost.{LosesScratch}
-use Rattle.spill_rule.specs.Choice.{homes_of, spilling_of}
-use Rattle.spill_rule.specs.Rule.{Decides, IsSpilled}
+use Rattle.spill_select.specs.spill_rule.Choice.{homes_of, spilling_of}
+use Rattle.spill_select.specs.spill_rule.Rule.{Decides, IsSpilled}
 use Rattle.spill_select.specs.Left.{why_left}
 
 -- a debug value of a spilled register

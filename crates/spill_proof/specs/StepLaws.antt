@@ -2,7 +2,7 @@
 use Rattle.std.specs.Prelude.{ℕ, List, Bool}
 use Rattle.mir_func.specs.Function.{Function}
 use Rattle.mir_func.specs.Strip.{stripped}
-use Rattle.spill_rule.specs.Rule.{Decides, IsSpilled}
+use Rattle.spill_select.specs.spill_rule.Rule.{Decides, IsSpilled}
 use Rattle.spill_proof.specs.Whole.{whole}
 
 -- it is related to the code before it by the code rule

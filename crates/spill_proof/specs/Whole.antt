@@ -6,7 +6,7 @@ use Rattle.spill_code.specs.declared.spilling.Spilling.{Spilling}
 use Rattle.spill_code.specs.Rewrite.{spilled_blocks}
 use Rattle.spill_debug.specs.RewrittenDebugItems.{blocks_asked}
 use Rattle.spill_proof.specs.Sound.{slots_now}
-use Rattle.spill_rule.specs.Choice.{homes_of, spilling_of, entry_of}
+use Rattle.spill_select.specs.spill_rule.Choice.{homes_of, spilling_of, entry_of}
 
 -- the function with these registers spilled, and with debug values of them rewritten, with fresh numbers from k on
 abbrev pub spilled_by : Spilling → (entry : List SlotAssignment) → (k : ℕ) → Function → Function

@@ -5,8 +5,8 @@ use Rattle.mir_func.specs.Limits.{MAX_SLOTS}
 use Rattle.mir_func.specs.Sound.{AreApart, AllItems, IsSound}
 use Rattle.mir_func.specs.Strip.{stripped}
 use Rattle.spill_debug.specs.RewrittenDebugItems.{asked}
-use Rattle.spill_rule.specs.Choice.{spilling_of}
-use Rattle.spill_rule.specs.Chosen.{IsReservable, AsksElsewhere}
+use Rattle.spill_select.specs.spill_rule.Choice.{spilling_of}
+use Rattle.spill_select.specs.spill_rule.Chosen.{IsReservable, AsksElsewhere}
 use Rattle.spill_proof.specs.Sound.{slots_now}
 
 -- the choice is the same with and without debug items

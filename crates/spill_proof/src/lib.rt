@@ -32,6 +32,13 @@
 //!   rule, and each debug item is kept, refers to a slot, or is lost with its cause.
 #![tactic(auto)]
 
+pub use pass_salvage as pass_salvage_crate;
+pub use pass_trait as pass_trait_crate;
+pub use pass_trait::mir_substitution_crate as mir_substitution_crate;
+pub use spill_debug as spill_debug_crate;
+pub use spill_select as spill_select_crate;
+pub use spill_select::spill_rule_crate as spill_rule_crate;
+
 pub mod asked_laws;
 pub mod cause_laws;
 pub mod item_laws;

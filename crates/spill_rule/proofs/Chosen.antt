@@ -1,8 +1,8 @@
--- What the rule chooses may be spilled: the scratch registers are free, homes are slots of their own, no call and no code that was added
--- names a spilled register, and those that are live at the start are stored there, if no branch goes there.
+-- What the rule chooses may be spilled: the scratch registers are free, homes are slots of their own, no call names a spilled register in an
+-- implicit operand and no code that was added names one, and those that are live at the start are stored there, if no branch goes there.
 use Rattle.std.proofs.Common.{◌≡◌, ◌⊎◌, ℕ, zero, suc, ◌+◌, ◌<◌, ◌≤◌, List, []}
 use Rattle.std.proofs.Common.{◌∷◌, filter, take, length, All, Contains, Option, Some, None, Bool}
-use Rattle.std.proofs.Common.{true, false, cond, not, ◌&&◌, ◌||◌, nat_eq, refl, sym}
+use Rattle.std.proofs.Common.{true, false, cond, not, ◌&&◌, nat_eq, refl, sym}
 use Rattle.std.proofs.Common.{ap, ◌∙◌, subst, inl, inr, eq-eqb, eqb-true, ne_eqb, lt-ltb, get_or, arith}
 use Rattle.std.specs.List.{list_any}
 use Rattle.std.specs.Prelude.{IsTrue}
@@ -16,6 +16,7 @@ use Rattle.rv64_instr.specs.declared.place.Place.TheVariants.{Register, Slot, Co
 use Rattle.rv64_instr.specs.Form.{has_form}
 use Rattle.rv64_instr.specs.Instruction.{Instruction}
 use Rattle.rv64_instr.specs.LocationEffects.{has_implicit_uses}
+use Rattle.rv64_instr.proofs.Tails.{global_low}
 use Rattle.rv64_instr.specs.Row.{Row, Branches, Jumps, row_of}
 use Rattle.mir_func.specs.declared.debug_substitution.OperandPair.{OperandPair}
 use Rattle.mir_func.specs.declared.position.Pos.{Pos}
@@ -28,19 +29,19 @@ use Rattle.mir_func.specs.declared.item.ItemKind.TheVariants.{Code, Mark, Phi}
 use Rattle.mir_func.specs.Function.{Function}
 use Rattle.mir_func.specs.Graph.{Here, program_of}
 use Rattle.mir_func.specs.Sound.{items_of, HasForm}
-use Rattle.sem_mir.specs.InitialState.{first_of}
-use Rattle.sem_mir.specs.Follow.{OnRow, GoesTo}
-use Rattle.sem_mir.specs.Live.{Live, used, later}
+use Rattle.pass_trait.specs.sem_mir.InitialState.{first_of}
+use Rattle.pass_trait.specs.sem_mir.Follow.{OnRow, GoesTo}
+use Rattle.pass_trait.specs.sem_mir.Live.{Live, used, later}
 use Rattle.pass_trait.specs.declared.loss.Reason.TheVariants.{NoScratch, CallNamed, EntryLoop}
-use Rattle.pass_trait.specs.Causes.{is_of_register, names, is_named, scratch_of}
+use Rattle.pass_trait.specs.Causes.{is_of_register, is_implicit_of, names, names_implicitly, is_named, scratch_of}
 use Rattle.pass_trait.specs.Sizes.{greatest}
-use Rattle.spill_code.specs.declared.spilling.SlotAssignment.{SlotAssignment}
-use Rattle.spill_code.specs.declared.spilling.Spilling.{Spilling}
-use Rattle.spill_code.specs.Rewrite.{slot_of}
+use Rattle.spill_simulation.specs.spill_code.declared.spilling.SlotAssignment.{SlotAssignment}
+use Rattle.spill_simulation.specs.spill_code.declared.spilling.Spilling.{Spilling}
+use Rattle.spill_simulation.specs.spill_code.Rewrite.{slot_of}
 use Rattle.spill_simulation.specs.MaySpill.{uses_in, defs_in, implicits_in, IsNoScratch, FitsCode, Fits, AreHomes}
 use Rattle.spill_simulation.specs.Follows.{MaySpill}
 use Rattle.spill_simulation.proofs.Places.{stands_at, contains_at}
-use Rattle.spill_rule.specs.Choice.{calls_or_ends, is_added, binds, is_bound, row_goes, goes, is_looped}
+use Rattle.spill_rule.specs.Choice.{is_added, binds, is_bound, row_goes, goes, is_looped}
 use Rattle.spill_rule.specs.Choice.{lacks_scratch, reason_of, is_free, candidates, room, chosen, next_slot}
 use Rattle.spill_rule.specs.Choice.{homes_from, homes_of, spilling_of, entry_of}
 use Rattle.spill_rule.specs.Chosen.{IsReservable, AreDistinct, AsksElsewhere, ChosenMaySpill}
@@ -152,6 +153,16 @@ implicit_named (ImplicitUse q ∷ os) r (zero, lt, e) = or_left (nat_eq q r) (li
 implicit_named (ImplicitUse q ∷ os) r (suc k, lt, e) =
     or_right (nat_eq q r) (list_any (is_of_register true r) os) (implicit_named os r (k, omega (arith, lt), e))
 implicit_named (x ∷ os) r k = or_right (is_of_register true r x) (list_any (is_of_register true r) os) (implicit_named os r k)
+
+implicit_operand : (os : List Operand) (r : ℕ) → Contains (implicits_in os) r → list_any (is_implicit_of r) os ≡ true
+implicit_operand [] r (k, lt, e) = absurd (omega (arith, lt))
+implicit_operand (ImplicitDef q ∷ os) r (zero, lt, e) = or_left (nat_eq q r) (list_any (is_implicit_of r) os) (eq-eqb q r e)
+implicit_operand (ImplicitDef q ∷ os) r (suc k, lt, e) =
+    or_right (nat_eq q r) (list_any (is_implicit_of r) os) (implicit_operand os r (k, omega (arith, lt), e))
+implicit_operand (ImplicitUse q ∷ os) r (zero, lt, e) = or_left (nat_eq q r) (list_any (is_implicit_of r) os) (eq-eqb q r e)
+implicit_operand (ImplicitUse q ∷ os) r (suc k, lt, e) =
+    or_right (nat_eq q r) (list_any (is_implicit_of r) os) (implicit_operand os r (k, omega (arith, lt), e))
+implicit_operand (x ∷ os) r k = or_right (is_implicit_of r x) (list_any (is_implicit_of r) os) (implicit_operand os r k)
 
 -- ---- more of lists
 
@@ -294,6 +305,7 @@ module _ (reserve : List ℕ) (live : ℕ → Bool) (f : Function) (resolve : Op
     kept = λ r n e. kept_registers r (reserved r n e);
     no_zero = small 0 (omega arith);
     no_pointer = small 2 (omega arith);
+    no_global = λ r e. (let low = global_low r e in small r (omega (arith, low)));
     own = home_own (next_slot f.slots) (chosen reserve live f);
     fresh = λ r n e k. (let lt = next_above f.slots n k in let le = (home_from (next_slot f.slots) (chosen reserve live f) r n e).1 in omega (arith, lt, le));
   } where
@@ -315,14 +327,12 @@ module _ (reserve : List ℕ) (live : ℕ → Bool) (f : Function) (resolve : Op
     clash r s.second (not_true (is_named f s.second) pair.second.1) i k named,
   )
 
-  -- a call, code that ends the function and code that was added name no spilled register
-  unspilled : (r : ℕ) (i : Item) → Contains (items_of f.blocks) i → names r i.kind ≡ true → (calls_or_ends i.kind || is_added i.origin) ≡ true →
-      slot_of hs r ≡ None
-  unspilled r i k named binding = by_slot (slot_of hs r) refl where
+  -- a call and code that ends the function name no spilled register in an implicit operand, and code that was added names none
+  unspilled : (r : ℕ) (i : Item) → Contains (items_of f.blocks) i → binds r i ≡ true → slot_of hs r ≡ None
+  unspilled r i k binding = by_slot (slot_of hs r) refl where
     by_slot : (x : Option ℕ) → slot_of hs r ≡ x → x ≡ None
     by_slot None e = refl
-    by_slot (Some n) e = absurd (none_by (binds r) (items_of f.blocks) i (taken r n e).unbound k
-        (and_from (names r i.kind) (calls_or_ends i.kind || is_added i.origin) named binding))
+    by_slot (Some n) e = absurd (none_by (binds r) (items_of f.blocks) i (taken r n e).unbound k binding)
 
   code_fits : (ins : Instruction) (num : Option ℕ) (o : Origin) (i : Item) → i.kind ≡ Code ins num → i.origin ≡ o → Contains (items_of f.blocks) i →
       IsTrue (has_form ins.op ins.operands) → FitsCode s ins o
@@ -331,8 +341,9 @@ module _ (reserve : List ℕ) (live : ℕ → Bool) (f : Function) (resolve : Op
     uses = λ r u. scratch_free r i k (by_use r u);
     defs = λ r d. scratch_free r i k (by_def r d);
     implicits = λ z r m. (by_implicit z r m, scratch_free r i k (by_name z r m));
-    kept = λ p e r m. unspilled r i k (elim m as (λ _. names r i.kind ≡ true) [ inl u ↦ by_use r u | inr d ↦ by_def r d ])
-        (or_right (calls_or_ends i.kind) (is_added i.origin) (ap is_added (at ∙ e)));
+    kept = λ p e r m. unspilled r i k (or_right (names_implicitly r i.kind) (names r i.kind && is_added i.origin)
+        (and_from (names r i.kind) (is_added i.origin)
+        (elim m as (λ _. names r i.kind ≡ true) [ inl u ↦ by_use r u | inr d ↦ by_def r d ]) (ap is_added (at ∙ e))));
   } where
     abbrev_names : (r : ℕ) → names r i.kind ≡ list_any (is_of_register (has_implicit_uses (row_of ins)) r) ins.operands
     abbrev_names r = ap (names r) is
@@ -348,7 +359,8 @@ module _ (reserve : List ℕ) (live : ℕ → Bool) (f : Function) (resolve : Op
         abbrev_names r ∙ ap (λ (t : Bool). list_any (is_of_register t r) ins.operands) z ∙ implicit_named ins.operands r m
 
     by_implicit : has_implicit_uses (row_of ins) ≡ true → (r : ℕ) → Contains (implicits_in ins.operands) r → slot_of hs r ≡ None
-    by_implicit z r m = unspilled r i k (by_name z r m) (or_left (calls_or_ends i.kind) (is_added i.origin) (ap calls_or_ends is ∙ z))
+    by_implicit z r m = unspilled r i k (or_left (names_implicitly r i.kind) (names r i.kind && is_added i.origin) (ap (names_implicitly r) is ∙
+        and_from (has_implicit_uses (row_of ins)) (list_any (is_implicit_of r) ins.operands) z (implicit_operand ins.operands r m)))
 
   item_fits : (i : Item) → Contains (items_of f.blocks) i → HasForm i.kind → AsksElsewhere s i.kind → Fits s i.kind i.origin
   item_fits i k form ask = by_kind i.kind refl form ask where

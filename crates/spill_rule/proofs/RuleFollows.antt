@@ -12,13 +12,13 @@ use Rattle.mir_func.specs.declared.item.ItemKind.{ItemKind}
 use Rattle.mir_func.specs.declared.item.ItemKind.TheVariants.{Code, Mark, Phi}
 use Rattle.mir_func.specs.declared.position.Origin.{Origin}
 use Rattle.mir_func.specs.declared.location.Loc.{Loc}
-use Rattle.spill_code.specs.declared.spilling.SlotAssignment.{SlotAssignment}
-use Rattle.spill_code.specs.declared.spilling.Spilling.{Spilling}
-use Rattle.spill_code.specs.Rewrite.{first_used, first_defined, use_now, def_now, renamed_operand, spilled_code, two_loads, stores, kind_items}
-use Rattle.spill_code.specs.Rewrite.{spilled_place, spilled_item, spilled_items, spilled_block, spilled_blocks}
+use Rattle.spill_simulation.specs.spill_code.declared.spilling.SlotAssignment.{SlotAssignment}
+use Rattle.spill_simulation.specs.spill_code.declared.spilling.Spilling.{Spilling}
+use Rattle.spill_simulation.specs.spill_code.Rewrite.{first_used, first_defined, use_now, def_now, renamed_operand, spilled_code, two_loads, stores, kind_items}
+use Rattle.spill_simulation.specs.spill_code.Rewrite.{spilled_place, spilled_item, spilled_items, spilled_block, spilled_blocks}
 use Rattle.mir_func.specs.Graph.{below}
 use Rattle.mir_func.specs.Positions.{position_of}
-use Rattle.sem_mir.specs.Follow.{Follows, HasWholeEnds}
+use Rattle.pass_trait.specs.sem_mir.Follow.{Follows, HasWholeEnds}
 use Rattle.spill_simulation.proofs.Following.{spilled_follows}
 use Rattle.spill_rule.specs.Choice.{homes_of, spilling_of, entry_of}
 use Rattle.spill_rule.specs.Follows.{RuleFollows}
@@ -60,7 +60,7 @@ module _ (a b : ℕ) where
       let e = operands_same (first_used [] i.operands) i.operands in
       ap (λ (z : Option ℕ). two_loads s (position_of o) i.operands z ++
       (record { kind = Code (spilled_code s i) n; origin = o; loc = l } ∷ stores (below (position_of o)) a (first_defined [] i.operands))) u ∙
-      (λ j. record { kind = Code (record { op = i.op; operands = e j }) n; origin = o; loc = l } ∷ stores (below (position_of o)) a (d j))
+      (λ j. record { kind = Code (record i { operands = e j }) n; origin = o; loc = l } ∷ stores (below (position_of o)) a (d j))
   kind_same (Mark v m) o l = refl
   kind_same (Phi p n) o l = ap (λ (q : Option Place). record { kind = Phi q n; origin = o; loc = l } ∷ []) (place_same p)
 

@@ -3,7 +3,6 @@ use Rattle.std.specs.Prelude.{ℕ, ◌+◌, ◌-◌, List, [], ◌∷◌, ◌++�
 use Rattle.std.specs.Prelude.{take, length, Option, Some, None, Bool, true, false, cond, ◌&&◌, ◌||◌}
 use Rattle.std.specs.Prelude.{nat_eq, nat_lt}
 use Rattle.std.specs.List.{list_any}
-use Rattle.rv64_instr.specs.LocationEffects.{has_implicit_uses}
 use Rattle.rv64_instr.specs.Row.{Row, row_of}
 use Rattle.mir_func.specs.declared.exit.Exit.{Exit}
 use Rattle.mir_func.specs.declared.exit.Exit.TheVariants.{Onward, Perhaps, Always, Final}
@@ -16,14 +15,14 @@ use Rattle.mir_func.specs.declared.item.ItemKind.TheVariants.{Code, Mark, Phi}
 use Rattle.mir_func.specs.Function.{Function}
 use Rattle.mir_func.specs.Limits.{MAX_SLOTS}
 use Rattle.mir_func.specs.Sound.{items_of}
-use Rattle.sem_mir.specs.InitialState.{first_of}
+use Rattle.pass_trait.specs.sem_mir.InitialState.{first_of}
 use Rattle.pass_trait.specs.declared.loss.Reason.{Reason}
 use Rattle.pass_trait.specs.declared.loss.Reason.TheVariants.{NoScratch, CallNamed, EntryLoop}
-use Rattle.pass_trait.specs.Causes.{names, is_named, scratch_of}
+use Rattle.pass_trait.specs.Causes.{names, names_implicitly, is_named, scratch_of}
 use Rattle.pass_trait.specs.Sizes.{greatest}
-use Rattle.spill_code.specs.declared.spilling.SlotAssignment.{SlotAssignment}
-use Rattle.spill_code.specs.declared.spilling.Spilling.{Spilling}
-use Rattle.spill_code.specs.Rewrite.{spilled_blocks}
+use Rattle.spill_simulation.specs.spill_code.declared.spilling.SlotAssignment.{SlotAssignment}
+use Rattle.spill_simulation.specs.spill_code.declared.spilling.Spilling.{Spilling}
+use Rattle.spill_simulation.specs.spill_code.Rewrite.{spilled_blocks}
 
 -- ---- what prevents a register from being spilled
 
@@ -32,15 +31,9 @@ abbrev pub is_added : Origin → Bool
 is_added (Before p) = true
 is_added (Kept p) = false
 
--- code that calls, or ends the function: its implicit uses are reads
-abbrev pub calls_or_ends : ItemKind → Bool
-calls_or_ends (Code i k) = has_implicit_uses (row_of i)
-calls_or_ends (Mark v m) = false
-calls_or_ends (Phi p k) = false
-
--- the item calls, ends the function (a call that doesn't return does) or is added code, and names the register
+-- the item calls or ends the function (a call that doesn't return does), and names the register in an implicit operand; or it is added code, and names it
 abbrev pub binds : ℕ → Item → Bool
-binds r i = names r i.kind && (calls_or_ends i.kind || is_added i.origin)
+binds r i = names_implicitly r i.kind || (names r i.kind && is_added i.origin)
 
 -- such an item names the register, so it can't be spilled
 abbrev pub is_bound : Function → ℕ → Bool

@@ -7,7 +7,7 @@ use Rattle.mir_func.specs.declared.item.ItemKind.{ItemKind}
 use Rattle.mir_func.specs.declared.item.ItemKind.TheVariants.{Code, Mark, Phi}
 use Rattle.mir_func.specs.Function.{Function}
 use Rattle.mir_func.specs.Sound.{AllItems, IsSound, HasForm}
-use Rattle.spill_code.specs.declared.spilling.Spilling.{Spilling}
+use Rattle.spill_simulation.specs.spill_code.declared.spilling.Spilling.{Spilling}
 use Rattle.spill_simulation.specs.MaySpill.{IsNoScratch, IsUntouched}
 use Rattle.spill_simulation.specs.Follows.{MaySpill}
 use Rattle.spill_rule.specs.Choice.{homes_of, spilling_of, entry_of}

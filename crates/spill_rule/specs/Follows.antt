@@ -5,7 +5,7 @@ use Rattle.mir_func.specs.declared.object.Object.{Object}
 use Rattle.mir_func.specs.declared.block.Block.{Block}
 use Rattle.mir_func.specs.Function.{Function}
 use Rattle.mir_func.specs.Sound.{AllItems, IsSound, HasForm}
-use Rattle.sem_mir.specs.Follow.{Follows, HasWholeEnds}
+use Rattle.pass_trait.specs.sem_mir.Follow.{Follows, HasWholeEnds}
 use Rattle.spill_rule.specs.Choice.{spilling_of, spilled}
 use Rattle.spill_rule.specs.Chosen.{IsReservable, AreDistinct, AsksElsewhere}
 use Rattle.spill_rule.specs.Rule.{Decides}

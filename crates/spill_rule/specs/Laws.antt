@@ -25,16 +25,16 @@ use Rattle.mir_func.specs.Function.{Function}
 use Rattle.mir_func.specs.Graph.{Program, Fetch, Here, EndOfBlock, Outside, below, block_start, end_of, front, fetch_in, from_block, program_of, FetchEdge}
 use Rattle.mir_func.specs.Sound.{items_of}
 use Rattle.mir_func.specs.Positions.{position_of}
-use Rattle.sem_mir.specs.InitialState.{first_of}
-use Rattle.sem_mir.specs.Live.{Live, used, later, Uses, Defines}
+use Rattle.pass_trait.specs.sem_mir.InitialState.{first_of}
+use Rattle.pass_trait.specs.sem_mir.Live.{Live, used, later, Uses, Defines}
 use Rattle.pass_trait.specs.declared.loss.Reason.TheVariants.{NoScratch, CallNamed, EntryLoop}
-use Rattle.pass_trait.specs.Causes.{names, is_named, scratch_of}
+use Rattle.pass_trait.specs.Causes.{names, names_implicitly, is_named, scratch_of}
 use Rattle.pass_trait.specs.Code.{HasOneResult, SeesCodeAlone, originless_origin, originless_item, originless_block, originless}
-use Rattle.spill_code.specs.declared.spilling.SlotAssignment.{SlotAssignment}
-use Rattle.spill_code.specs.declared.spilling.Spilling.{Spilling}
-use Rattle.spill_code.specs.Rewrite.{added, load, loads, two_loads, stores, first_used, other_used, first_defined, spilled_code, code_items, kind_items}
-use Rattle.spill_code.specs.Rewrite.{spilled_place, spilled_item, spilled_items, spilled_block, entry_stores, spilled_blocks}
-use Rattle.spill_rule.specs.Choice.{calls_or_ends, is_added, binds, is_bound, goes, is_looped, lacks_scratch}
+use Rattle.spill_simulation.specs.spill_code.declared.spilling.SlotAssignment.{SlotAssignment}
+use Rattle.spill_simulation.specs.spill_code.declared.spilling.Spilling.{Spilling}
+use Rattle.spill_simulation.specs.spill_code.Rewrite.{added, load, loads, two_loads, stores, first_used, other_used, first_defined, spilled_code, code_items, kind_items}
+use Rattle.spill_simulation.specs.spill_code.Rewrite.{spilled_place, spilled_item, spilled_items, spilled_block, entry_stores, spilled_blocks}
+use Rattle.spill_rule.specs.Choice.{is_added, binds, is_bound, goes, is_looped, lacks_scratch}
 use Rattle.spill_rule.specs.Choice.{reason_of, is_free, candidates, room, chosen, next_slot, homes_from}
 use Rattle.spill_rule.specs.Choice.{homes_of, first_scratch, second_scratch, spilling_of, entry_of, spilled}
 use Rattle.spill_rule.specs.Rule.{IsLiveIn, IsSpilled}
@@ -242,7 +242,7 @@ module _ (f : Function) where
   named_same r = any_originless (λ i. names r i.kind) (λ i. refl) f.blocks
 
   bound_same : (r : ℕ) → is_bound (originless f) r ≡ is_bound f r
-  bound_same r = any_originless (binds r) (λ i. (let e = added_originless i.origin in λ j. names r i.kind && (calls_or_ends i.kind || e j))) f.blocks
+  bound_same r = any_originless (binds r) (λ i. (let e = added_originless i.origin in λ j. names_implicitly r i.kind || (names r i.kind && e j))) f.blocks
 
   looped_same : is_looped (originless f) ≡ is_looped f
   looped_same =

@@ -3,8 +3,8 @@ use Rattle.std.specs.Prelude.{◌≡◌, ◌↔◌, ℕ, List, Contains, None, B
 use Rattle.rv64_instr.specs.declared.place.Place.TheVariants.{Register}
 use Rattle.mir_func.specs.Function.{Function}
 use Rattle.mir_func.specs.Graph.{program_of, block_start}
-use Rattle.sem_mir.specs.InitialState.{first_of}
-use Rattle.sem_mir.specs.Live.{Live}
+use Rattle.pass_trait.specs.sem_mir.InitialState.{first_of}
+use Rattle.pass_trait.specs.sem_mir.Live.{Live}
 use Rattle.pass_trait.specs.Code.{CodeRule}
 use Rattle.spill_rule.specs.Choice.{spilled}
 

@@ -5,5 +5,8 @@
 //! a new slot, and is stored there at the function's start if it is live into the first block.
 #![tactic(auto)]
 
+pub use pass_trait as pass_trait_crate;
+pub use spill_simulation::spill_code_crate as spill_code_crate;
+
 pub mod laws;
 pub mod named;

@@ -1,12 +1,12 @@
 //! Which registers code names, and which blocks are branch targets.
 
-ghost use Rattle.std.specs.Prelude.{◌≡◌, ◌&&◌};
+ghost use Rattle.std.specs.Prelude.{◌≡◌};
 ghost use Rattle.std.specs.List.{list_any};
 ghost use Rattle.rv64_instr.specs.Row.{row_of};
 ghost use Rattle.rv64_instr.specs.LocationEffects.{has_implicit_uses};
-ghost use Rattle.sem_mir.specs.InitialState.{first_of};
-ghost use Rattle.pass_trait.specs.Causes.{is_of_register, names, is_named};
-ghost use Rattle.spill_rule.specs.Choice.{calls_or_ends, is_added, binds, is_bound, row_goes, goes, is_looped};
+ghost use Rattle.pass_trait.specs.sem_mir.InitialState.{first_of};
+ghost use Rattle.pass_trait.specs.Causes.{is_of_register, is_implicit_of, names, names_implicitly, is_named};
+ghost use Rattle.spill_rule.specs.Choice.{is_added, binds, is_bound, row_goes, goes, is_looped};
 ghost use Rattle.spill_rule.specs.steps.Any.{any_item};
 
 use base_ids::function_ids::BlockId;
@@ -33,7 +33,7 @@ fn names_any(blocks: &[Block], r: Reg) -> bool
     blocks.iter().any(|b| is_named_in(b.items.as_slice(), r))
 }
 
-/// Whether some call, code that ends the function or added code names the register.
+/// Whether some call or code that ends the function names the register in an implicit operand, or added code names it.
 pub fn is_bound(f: &Func, r: Reg) -> bool
     ensures { result ≡ is_bound f.now r }
 {
@@ -89,7 +89,7 @@ fn has_branch_in(items: &[Item], n: BlockId) -> bool
 fn binds(r: Reg, i: &Item) -> bool
     ensures { result ≡ binds r i.now }
 {
-    names(r, &i.kind) && (calls_or_ends(&i.kind) || is_added(i.origin))
+    names_implicitly(r, &i.kind) || names(r, &i.kind) && is_added(i.origin)
 }
 
 fn is_added(origin: Origin) -> bool
@@ -101,12 +101,38 @@ fn is_added(origin: Origin) -> bool
     }
 }
 
-fn calls_or_ends(kind: &ItemKind) -> bool
-    ensures { result ≡ calls_or_ends kind.now }
+fn names_implicitly(r: Reg, kind: &ItemKind) -> bool
+    ensures { result ≡ names_implicitly r kind.now }
 {
     match kind {
-        ItemKind::Code(i, _) => has_implicit_uses(i),
+        ItemKind::Code(i, _) => has_implicit_uses(i) && has_implicit_of(r, i.operands.as_slice()),
         ItemKind::Mark(_, _) | ItemKind::Phi(_, _) => false,
+    }
+}
+
+fn has_implicit_of(r: Reg, operands: &[Operand]) -> bool
+    ensures { result ≡ list_any (is_implicit_of r) operands.now }
+{
+    operands.iter().any(|operand| is_implicit_of(r, operand))
+}
+
+/// Whether the operand is an implicit one of the register.
+fn is_implicit_of(r: Reg, operand: &Operand) -> bool
+    ensures { result ≡ is_implicit_of r operand.now }
+{
+    match operand {
+        Operand::ImplicitDef(s) | Operand::ImplicitUse(s) => s.number() == r.number(),
+        Operand::Def(_)
+        | Operand::Use(_)
+        | Operand::Imm(_)
+        | Operand::Slot(_)
+        | Operand::Object(_)
+        | Operand::Part(_, _)
+        | Operand::Outgoing(_)
+        | Operand::GlobalRegisters
+        | Operand::Block(_)
+        | Operand::Symbol(_)
+        | Operand::Mask => false,
     }
 }
 
@@ -148,6 +174,7 @@ fn is_of_register(counts: bool, r: Reg, operand: &Operand) -> bool
         | Operand::Object(_)
         | Operand::Part(_, _)
         | Operand::Outgoing(_)
+        | Operand::GlobalRegisters
         | Operand::Block(_)
         | Operand::Symbol(_)
         | Operand::Mask => false,

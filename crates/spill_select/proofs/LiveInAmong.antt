@@ -3,9 +3,9 @@ use Rattle.std.proofs.Common.{◌≡◌, ◌⊎◌, inl, inr, ℕ, zero, suc, �
 use Rattle.std.proofs.Common.{refl, sym, ap, ◌∙◌, subst, arith, eqb-true, eq-eqb, slice_index}
 use Rattle.std.proofs.lemmas.Bool.{or_right}
 use Rattle.std.specs.Prelude.{Result, Ok, Err, IfOk}
-use Rattle.mir_func.specs.declared.block.Block.{Block}
-use Rattle.mir_func.specs.Sound.{ids_of, LastCloses}
-use Rattle.sem_mir.specs.InitialState.{first_of}
+use Rattle.pass_liveness.specs.mir_func.declared.block.Block.{Block}
+use Rattle.pass_liveness.specs.mir_func.Sound.{ids_of, LastCloses}
+use Rattle.pass_liveness.specs.sem_mir.InitialState.{first_of}
 use Rattle.spill_select.specs.Incoming.{is_among}
 
 or_cases : (a b : Bool) → (a || b) ≡ true → (a ≡ true) ⊎ (b ≡ true)

@@ -1,14 +1,14 @@
 -- Why registers of a reserve aren't spilled.
 use Rattle.std.specs.Prelude.{ℕ, List, Option, Some, None, Bool, cond}
 use Rattle.std.specs.List.{filter_map}
-use Rattle.mir_func.specs.Function.{Function}
-use Rattle.pass_trait.specs.declared.loss.Loss.{Loss}
-use Rattle.pass_trait.specs.declared.loss.Reason.{Reason}
-use Rattle.pass_trait.specs.declared.loss.Reason.TheVariants.{NoScratch, CallNamed, EntryLoop, NoSlot}
-use Rattle.pass_trait.specs.Causes.{is_named}
-use Rattle.pass_trait.specs.Rule.{register_lost}
-use Rattle.spill_code.specs.declared.spilling.SlotAssignment.{SlotAssignment}
-use Rattle.spill_code.specs.Rewrite.{slot_of}
+use Rattle.pass_liveness.specs.mir_func.Function.{Function}
+use Rattle.spill_rule.specs.pass_trait.declared.loss.Loss.{Loss}
+use Rattle.spill_rule.specs.pass_trait.declared.loss.Reason.{Reason}
+use Rattle.spill_rule.specs.pass_trait.declared.loss.Reason.TheVariants.{NoScratch, CallNamed, EntryLoop, NoSlot}
+use Rattle.spill_rule.specs.pass_trait.Causes.{is_named}
+use Rattle.spill_rule.specs.pass_trait.Rule.{register_lost}
+use Rattle.spill_rule.specs.spill_code.declared.spilling.SlotAssignment.{SlotAssignment}
+use Rattle.spill_rule.specs.spill_code.Rewrite.{slot_of}
 use Rattle.spill_rule.specs.Choice.{reason_of, homes_of}
 
 -- the first reason that applies, apart from a lack of slots, given the conditions on the function and the register

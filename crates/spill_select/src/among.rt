@@ -3,7 +3,7 @@
 ghost use Rattle.std.specs.Prelude.{◌≡◌};
 ghost use Rattle.spill_select.specs.Incoming.{is_among};
 
-use rv64_instr::reg::Reg;
+use pass_liveness::rv64_instr_crate::reg::Reg;
 
 /// Whether a register is one of these.
 pub fn is_among(registers: &[Reg], r: Reg) -> bool

@@ -1,9 +1,9 @@
 //! Which registers of a reserve are spilled.
 
 ghost use Rattle.std.specs.Prelude.{◌≡◌, ◌<◌, ◌+◌, ◌^◌, ◌&&◌, length, max, IfOk};
-ghost use Rattle.mir_func.specs.Limits.{MAX_SLOTS};
-ghost use Rattle.pass_trait.specs.Causes.{is_named};
-ghost use Rattle.pass_trait.specs.Sizes.{greatest};
+ghost use Rattle.pass_liveness.specs.mir_func.Limits.{MAX_SLOTS};
+ghost use Rattle.spill_rule.specs.pass_trait.Causes.{is_named};
+ghost use Rattle.spill_rule.specs.pass_trait.Sizes.{greatest};
 ghost use Rattle.spill_rule.specs.Choice.{is_bound, is_looped, lacks_scratch, is_free, candidates, room};
 ghost use Rattle.spill_rule.specs.Choice.{chosen, next_slot};
 ghost use Rattle.spill_rule.specs.Choice.{homes_from, spilling_of, entry_of, reason_of};
@@ -13,12 +13,12 @@ ghost use Rattle.spill_select.specs.Left.{first_reason};
 use crate::among::is_among;
 use crate::scratch::{first_scratch, scratch_of, second_scratch};
 use base_ids::function_ids::SlotId;
-use mir_func::func::Func;
-use mir_func::limits::MAX_SLOTS;
-use pass_trait::loss::Reason;
-use rv64_instr::reg::{Reg, Registers};
-use spill_code::spilling::{SlotAssignment, SlotAssignments, Spilling};
+use pass_liveness::mir_func_crate::func::Func;
+use pass_liveness::mir_func_crate::limits::MAX_SLOTS;
+use pass_liveness::rv64_instr_crate::reg::{Reg, Registers};
 use spill_rule::named::{is_bound, is_looped, is_named};
+use spill_rule::pass_trait_crate::loss::Reason;
+use spill_rule::spill_code_crate::spilling::{SlotAssignment, SlotAssignments, Spilling};
 use std::alloc::{AllocError, Global};
 
 /// The scratch registers of a function, and the slots of the registers of a reserve that are spilled, by the rule.

@@ -1,16 +1,16 @@
 //! Registers that are live into a function.
 
 ghost use Rattle.std.specs.Prelude.{◌≡◌, filter, IfOk};
-ghost use Rattle.rv64_instr.specs.declared.place.Place.TheVariants.{Register};
+ghost use Rattle.pass_liveness.specs.rv64_instr.declared.place.Place.TheVariants.{Register};
 ghost use Rattle.pass_liveness.specs.Sets.{has};
 ghost use Rattle.spill_rule.specs.Rule.{Decides};
 ghost use Rattle.spill_select.specs.Incoming.{is_among};
 
-use mir_func::func::Func;
 use pass_liveness::live::Live;
+use pass_liveness::mir_func_crate::func::Func;
+use pass_liveness::rv64_instr_crate::place::Place;
+use pass_liveness::rv64_instr_crate::reg::{Reg, Registers};
 use pass_liveness::set::PlaceSet;
-use rv64_instr::place::Place;
-use rv64_instr::reg::{Reg, Registers};
 use std::alloc::{AllocError, Global};
 
 /// The registers of a reserve that are live into a function's first block, in the order of the reserve.

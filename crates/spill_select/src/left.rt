@@ -1,18 +1,18 @@
 //! Registers of a reserve that aren't spilled, and why.
 
 ghost use Rattle.std.specs.Prelude.{◌≡◌, ◌&&◌, cond, None, IfOk};
-ghost use Rattle.pass_trait.specs.Causes.{is_named};
-ghost use Rattle.spill_code.specs.Rewrite.{slot_of};
+ghost use Rattle.spill_rule.specs.pass_trait.Causes.{is_named};
+ghost use Rattle.spill_rule.specs.spill_code.Rewrite.{slot_of};
 ghost use Rattle.spill_rule.specs.Choice.{is_bound, homes_of};
 ghost use Rattle.spill_select.specs.Incoming.{is_among};
 ghost use Rattle.spill_select.specs.Left.{first_reason, or_no_slot, why_left, registers_left};
 
 use crate::choice::{Facts, lacks_scratch, reason_of};
-use mir_func::func::Func;
-use pass_trait::loss::{Loss, Losses, Lost, Reason};
-use rv64_instr::reg::Reg;
-use spill_code::spilling::{SlotAssignment, slot_of};
+use pass_liveness::mir_func_crate::func::Func;
+use pass_liveness::rv64_instr_crate::reg::Reg;
 use spill_rule::named::{is_looped, is_named};
+use spill_rule::pass_trait_crate::loss::{Loss, Losses, Lost, Reason};
+use spill_rule::spill_code_crate::spilling::{SlotAssignment, slot_of};
 use std::alloc::{AllocError, Global};
 
 /// The losses of the registers of a reserve that code names and that aren't spilled, each with the first reason that

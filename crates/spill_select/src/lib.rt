@@ -7,6 +7,8 @@
 //! - `incoming`: The registers that are live into a function's first block, by liveness analysis.
 #![tactic(auto)]
 
+pub use spill_rule as spill_rule_crate;
+
 pub mod among;
 pub mod choice;
 pub mod incoming;

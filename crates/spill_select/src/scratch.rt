@@ -1,11 +1,11 @@
 //! Scratch registers.
 
 ghost use Rattle.std.specs.Prelude.{◌≡◌, ◌<◌, ◌∷◌, [], filter, not, IfOk};
-ghost use Rattle.pass_trait.specs.Causes.{is_named, scratch_of};
+ghost use Rattle.spill_rule.specs.pass_trait.Causes.{is_named, scratch_of};
 ghost use Rattle.spill_rule.specs.Choice.{first_scratch, second_scratch};
 
-use mir_func::func::Func;
-use rv64_instr::reg::{Reg, Registers, physical};
+use pass_liveness::mir_func_crate::func::Func;
+use pass_liveness::rv64_instr_crate::reg::{Reg, Registers, physical};
 use spill_rule::named::is_named;
 use std::alloc::{AllocError, Global};
 

@@ -7,13 +7,15 @@ use Rattle.std.proofs.lemmas.Bool.{and_parts}
 use Rattle.rv64_instr.specs.Row.{Input, Content, Number, PartOf}
 use Rattle.rv64_instr.specs.Row.{Base, PointedBy, ObjectAt, BesidePart}
 use Rattle.rv64_instr.specs.declared.operand.Operand.{Operand}
-use Rattle.rv64_instr.specs.declared.operand.Operand.TheVariants.{ImplicitDef, ImplicitUse}
+use Rattle.rv64_instr.specs.declared.operand.Operand.TheVariants.{ImplicitDef, ImplicitUse, GlobalRegisters}
 use Rattle.rv64_instr.specs.declared.place.Place.{Place}
 use Rattle.rv64_instr.specs.declared.place.Place.TheVariants.{Register, Slot, Const}
 use Rattle.rv64_instr.specs.Instruction.{Instruction}
 use Rattle.rv64_instr.specs.LocationEffects.{has_implicit_uses, first_use, second_use, input_place, base_place, is_register, is_implicit_use, uses_of}
-use Rattle.rv64_instr.specs.DefsAndUses.{reads, sets, input_reads, base_reads}
+use Rattle.rv64_instr.specs.LocationEffects.{is_global_register, callee_place}
+use Rattle.rv64_instr.specs.DefsAndUses.{reads, sets, input_reads, base_reads, callee_reads}
 use Rattle.rv64_instr.specs.Row.{Row, Moves, Sets, Loads, Stores, StoresSlot, Branches, Jumps, Calls, Returns, Unfit, row_of}
+use Rattle.rv64_instr.specs.Row.{Callee, Named, Held}
 use Rattle.mir_func.specs.declared.position.Pos.{Pos}
 use Rattle.mir_func.specs.declared.position.Origin.{Origin}
 use Rattle.mir_func.specs.declared.location.Loc.{Loc}
@@ -30,7 +32,7 @@ use Rattle.spill_code.specs.Rewrite.{slot_of, set_in, stand_in, use_now, def_now
 use Rattle.spill_code.specs.Rewrite.{two_loads, stores, code_items}
 use Rattle.spill_simulation.specs.MaySpill.{uses_in, defs_in, implicits_in, FitsCode, AreHomes}
 use Rattle.rv64_instr.proofs.Moves.{moves_by}
-use Rattle.spill_simulation.proofs.Explicit.{explicit, first_from, used_is, defined_is, found_of}
+use Rattle.spill_simulation.proofs.Explicit.{explicit, explicit_reads, first_from, used_is, defined_is, found_of}
 use Rattle.spill_simulation.proofs.Near.{none_in, keeps_zero}
 use Rattle.spill_simulation.proofs.Rows.{renamed_row, row_renamed}
 use Rattle.spill_simulation.proofs.Steps.{setting_plain, sets_one}
@@ -80,6 +82,10 @@ first_read (Loads rd op b o) q e = from_base b q e
 first_read (Stores op rs b o) q e = head_is rs q (base_reads b) e
 first_read (StoresSlot rs n) q e = head_is rs q [] e
 first_read (Branches op a b t) q e = head_is a q (b ∷ []) e
+first_read (Calls call) q e = by_callee call.callee e where
+  by_callee : (callee : Callee) → is_register q (callee_place callee) ≡ true → Contains (callee_reads callee ++ call.args) q
+  by_callee (Named name) e = cc
+  by_callee (Held r) e = head_is r q call.args e
 first_read _ q e = cc
 
 second_read : (r : Row) (q : ℕ) → is_register q (second_use r) ≡ true → Contains (reads r) q
@@ -88,9 +94,17 @@ second_read (Stores op rs b o) q e = contains_tail rs q (base_reads b) (from_bas
 second_read (Branches op a b t) q e = contains_tail a q (b ∷ []) (head_is b q [] e)
 second_read _ q e = cc
 
--- an implicit row has no explicit use
-explicit_row : (r : Row) (q : ℕ) → has_implicit_uses r ≡ true → (is_register q (first_use r) || is_register q (second_use r)) ≡ true → ⊥
-explicit_row (Calls call) q i e = cc
+-- a row with implicit uses has no explicit use but a callee's
+explicit_row : (r : Row) (q : ℕ) → has_implicit_uses r ≡ true → (is_register q (first_use r) || is_register q (second_use r)) ≡ true →
+    Contains (explicit_reads r) q
+explicit_row (Calls call) q i e = by_callee call.callee e where
+  by_test : (r : ℕ) (b : Bool) → nat_eq q r ≡ b → (b || false) ≡ true → Contains (r ∷ []) q
+  by_test r true is h = subst (λ (z : ℕ). Contains (r ∷ []) z) (sym (eqb-true q r is)) (contains_head r [])
+  by_test r false is h = cc
+
+  by_callee : (callee : Callee) → (is_register q (callee_place callee) || false) ≡ true → Contains (callee_reads callee) q
+  by_callee (Named name) e = cc
+  by_callee (Held r) e = by_test r (nat_eq q r) refl e
 explicit_row (Returns v) q i e = cc
 explicit_row _ q i e = cc
 
@@ -98,14 +112,20 @@ either_true : (x y : Bool) → (x || y) ≡ true → (x ≡ true) ⊎ (y ≡ tru
 either_true true y e = inl refl
 either_true false y e = inr e
 
-implicit_in : (os : List Operand) (q : ℕ) → list_any (is_implicit_use q) os ≡ true → Contains (implicits_in os) q
-implicit_in [] q e = cc
-implicit_in (ImplicitUse r ∷ os) q e = elim (either_true (nat_eq r q) (list_any (is_implicit_use q) os) e) as (λ _. Contains (r ∷ implicits_in os) q) [
-  | inl k ↦ subst (λ (z : ℕ). Contains (r ∷ implicits_in os) z) (eqb-true r q k) (contains_head r (implicits_in os))
-  | inr k ↦ contains_tail r q (implicits_in os) (implicit_in os q k)
-]
-implicit_in (ImplicitDef r ∷ os) q e = contains_tail r q (implicits_in os) (implicit_in os q e)
-implicit_in (_ ∷ os) q e = implicit_in os q e
+implicit_in : (os : List Operand) (q : ℕ) → is_global_register q ≡ false → list_any (is_implicit_use q) os ≡ true → Contains (implicits_in os) q
+implicit_in [] q own e = cc
+implicit_in (ImplicitUse r ∷ os) q own e =
+    elim (either_true (nat_eq r q) (list_any (is_implicit_use q) os) e) as (λ _. Contains (r ∷ implicits_in os) q) [
+      | inl k ↦ subst (λ (z : ℕ). Contains (r ∷ implicits_in os) z) (eqb-true r q k) (contains_head r (implicits_in os))
+      | inr k ↦ contains_tail r q (implicits_in os) (implicit_in os q own k)
+    ]
+implicit_in (ImplicitDef r ∷ os) q own e = contains_tail r q (implicits_in os) (implicit_in os q own e)
+implicit_in (GlobalRegisters ∷ os) q own e =
+    elim (either_true (is_global_register q) (list_any (is_implicit_use q) os) e) as (λ _. Contains (implicits_in os) q) [
+      | inl k ↦ (let bad : false ≡ true = sym own ∙ k in cc)
+      | inr k ↦ implicit_in os q own k
+    ]
+implicit_in (_ ∷ os) q own e = implicit_in os q own e
 
 -- a live register has a use
 pub live_use : {f : Program} {x : Place} {p : Pos} → Live f x p → (w : Pos) × Leads f p w × Uses (f.fetch w) x
@@ -123,9 +143,13 @@ module _ (s : Spilling) (slots : List ℕ) (homes : AreHomes s slots) where
         | inl k ↦ by_row k (has_implicit_uses (row_of i)) refl
         | inr k ↦
             (let w = and_parts (has_implicit_uses (row_of i)) (list_any (is_implicit_use r) i.operands) k in
-            let none = (fits.implicits w.0 r (implicit_in i.operands r w.1)).0 in
+            let none = (fits.implicits w.0 r (implicit_in i.operands r (own (is_global_register r) refl) w.1)).0 in
             let bad : None ≡ Some n = sym none ∙ home in cc)
       ] where
+        own : (b : Bool) → is_global_register r ≡ b → b ≡ false
+        own true g = let bad : None ≡ Some n = sym (homes.no_global r g) ∙ home in cc
+        own false g = refl
+
         by_found : Contains (uses_in i.operands) r → (m : ℕ) × (first_used s.homes i.operands ≡ Some m)
         by_found k =
             elim (found_of s.homes (uses_in i.operands) (explicit i fits.form).few r n k home)
@@ -136,7 +160,8 @@ module _ (s : Spilling) (slots : List ℕ) (homes : AreHomes s slots) where
 
         by_row : (is_register r (first_use (row_of i)) || is_register r (second_use (row_of i))) ≡ true → (z : Bool) → has_implicit_uses (row_of i) ≡ z →
             (m : ℕ) × (first_used s.homes i.operands ≡ Some m)
-        by_row k true z = absurd (explicit_row (row_of i) r z k)
+        by_row k true z = by_found ((explicit i fits.form).explicit_used r (explicit_row (row_of i) r z k)
+            (λ e. (let bad : None ≡ Some n = sym homes.no_zero ∙ ap (slot_of s.homes) (sym e) ∙ home in cc)))
         by_row k false z = by_found ((explicit i fits.form).reads_used z r
             (elim (either_true (is_register r (first_use (row_of i))) (is_register r (second_use (row_of i))) k) as (λ _. Contains (reads (row_of i)) r) [
               | inl h ↦ first_read (row_of i) r h

@@ -18,9 +18,9 @@ use Rattle.rv64_instr.specs.Form.{is_implicit, is_argument, is_last_argument, is
 use Rattle.rv64_instr.specs.Form.{is_held_tail_use, is_held_tail_register}
 use Rattle.rv64_instr.proofs.Tails.{last_arguments, held_tail_uses}
 use Rattle.rv64_instr.specs.Instruction.{Instruction}
-use Rattle.rv64_instr.specs.Row.{Row, row_by, row_of, immediate_row, object_row, move_row, Unfit, implicit_uses, outgoing_words, held_call, held_tail}
+use Rattle.rv64_instr.specs.Row.{Row, Calls, Returns, Held, row_by, row_of, immediate_row, object_row, move_row, Unfit, implicit_uses, outgoing_words, held_tail}
 use Rattle.rv64_instr.specs.Row.{held_gone}
-use Rattle.rv64_instr.specs.DefsAndUses.{reads, sets}
+use Rattle.rv64_instr.specs.DefsAndUses.{reads, sets, callee_reads}
 use Rattle.rv64_instr.specs.LocationEffects.{has_implicit_uses}
 use Rattle.sem_mir.specs.Step.{defined}
 use Rattle.sem_mir.proofs.Places.{contains_head, contains_tail}
@@ -110,8 +110,22 @@ module _ (homes : List SlotAssignment) where
 
 -- ---- what code in form reads and sets
 
+-- the registers that a row reads by explicit operands
+abbrev pub explicit_reads : Row → List ℕ
+explicit_reads (Calls call) = callee_reads call.callee
+explicit_reads (Returns ending) = []
+explicit_reads row = reads row
+
+-- without implicit uses these are all
+pub plain_reads : (r : Row) → has_implicit_uses r ≡ false → explicit_reads r ≡ reads r
+plain_reads (Calls call) i = cc
+plain_reads (Returns ending) i = cc
+plain_reads _ i = refl
+
 pub record Explicit (r : Row) (us ds : List ℕ) : Type 0 where
   pub few : length us ≤ 2
+  pub explicit_used : (q : ℕ) → Contains (explicit_reads r) q → (q ≡ 0 → ⊥) → Contains us q
+  pub used_explicit : (q : ℕ) → Contains us q → (q ≡ 0 → ⊥) → Contains (explicit_reads r) q
   pub reads_used : has_implicit_uses r ≡ false → (q : ℕ) → Contains (reads r) q → (q ≡ 0 → ⊥) → Contains us q
   pub used_reads : (q : ℕ) → Contains us q → (q ≡ 0 → ⊥) → Contains (reads r) q
   pub sets_defs : has_implicit_uses r ≡ false → sets r ≡ ds
@@ -127,6 +141,8 @@ only_zero q (suc k, lt, e) ne = absurd (omega (arith, lt))
 reads_all : (r : Row) (us ds : List ℕ) → length us ≤ 2 → reads r ≡ us → sets r ≡ ds → has_implicit_uses r ≡ false → Explicit r us ds
 reads_all r us ds le e d i = record {
   few = le;
+  explicit_used = λ q k ne. subst (λ (xs : List ℕ). Contains xs q) (plain_reads r i ∙ e) k;
+  used_explicit = λ q k ne. subst (λ (xs : List ℕ). Contains xs q) (sym (plain_reads r i ∙ e)) k;
   reads_used = λ _ q k ne. subst (λ (xs : List ℕ). Contains xs q) e k;
   used_reads = λ q k ne. subst (λ (xs : List ℕ). Contains xs q) (sym e) k;
   sets_defs = λ _. d;
@@ -136,6 +152,8 @@ reads_all r us ds le e d i = record {
 reads_zero : (r : Row) (ds : List ℕ) → reads r ≡ [] → sets r ≡ ds → has_implicit_uses r ≡ false → Explicit r (0 ∷ []) ds
 reads_zero r ds e d i = record {
   few = omega arith;
+  explicit_used = λ q k ne. absurd (none_in q (subst (λ (xs : List ℕ). Contains xs q) (plain_reads r i ∙ e) k));
+  used_explicit = λ q k ne. absurd (only_zero q k ne);
   reads_used = λ _ q k ne. absurd (none_in q (subst (λ (xs : List ℕ). Contains xs q) e k));
   used_reads = λ q k ne. absurd (only_zero q k ne);
   sets_defs = λ _. d;
@@ -146,18 +164,38 @@ reads_zero r ds e d i = record {
 reads_only_zero : (r : Row) (ds : List ℕ) → reads r ≡ 0 ∷ [] → sets r ≡ ds → has_implicit_uses r ≡ false → Explicit r [] ds
 reads_only_zero r ds e d i = record {
   few = omega arith;
+  explicit_used = λ q k ne. absurd (only_zero q (subst (λ (xs : List ℕ). Contains xs q) (plain_reads r i ∙ e) k) ne);
+  used_explicit = λ q k ne. absurd (none_in q k);
   reads_used = λ _ q k ne. absurd (only_zero q (subst (λ (xs : List ℕ). Contains xs q) e k) ne);
   used_reads = λ q k ne. absurd (none_in q k);
   sets_defs = λ _. d;
   implicit_none = λ t. (let bad : false ≡ true = sym i ∙ t in cc);
 }
 
-implicit_row : (r : Row) → has_implicit_uses r ≡ true → Explicit r [] []
-implicit_row r i = record {
+implicit_row : (r : Row) → has_implicit_uses r ≡ true → explicit_reads r ≡ [] → Explicit r [] []
+implicit_row r i e = record {
   few = omega arith;
+  explicit_used = λ q k ne. absurd (none_in q (subst (λ (xs : List ℕ). Contains xs q) e k));
+  used_explicit = λ q k ne. absurd (none_in q k);
   reads_used = λ f q k ne. (let bad : true ≡ false = sym i ∙ f in cc);
   used_reads = λ q k ne. absurd (none_in q k);
   sets_defs = λ f. (let bad : true ≡ false = sym i ∙ f in cc);
+  implicit_none = λ t. refl;
+}
+
+one_of_more : (q p : ℕ) (rs : List ℕ) → Contains (q ∷ []) p → Contains (q ∷ rs) p
+one_of_more q p rs (zero, lt, e) = subst (λ (z : ℕ). Contains (q ∷ rs) z) e (contains_head q rs)
+one_of_more q p rs (suc k, lt, e) = absurd (omega (arith, lt))
+
+-- a call by a register
+held_row : (q : ℕ) (args outgoing : List ℕ) → Explicit (Calls (record { callee = Held q; args = args; outgoing = outgoing })) (q ∷ []) []
+held_row q args outgoing = record {
+  few = omega arith;
+  explicit_used = λ p k ne. k;
+  used_explicit = λ p k ne. k;
+  reads_used = λ f p k ne. (let bad : true ≡ false = f in cc);
+  used_reads = λ p k ne. one_of_more q p args k;
+  sets_defs = λ f. (let bad : true ≡ false = f in cc);
   implicit_none = λ t. refl;
 }
 
@@ -236,17 +274,13 @@ ended r rest p none e h =
 unfit : Explicit Unfit [] []
 unfit = reads_all Unfit [] [] (omega arith) refl refl refl
 
-held_call_row_of : (xs outgoing : List ℕ) → Explicit (held_call xs outgoing) [] []
-held_call_row_of [] outgoing = unfit
-held_call_row_of (x ∷ xs) outgoing = implicit_row (held_call (x ∷ xs) outgoing) refl
-
 held_tail_row_of : (xs : List ℕ) → Explicit (held_tail xs) [] []
 held_tail_row_of [] = unfit
-held_tail_row_of (x ∷ xs) = implicit_row (held_tail (x ∷ xs)) refl
+held_tail_row_of (x ∷ xs) = implicit_row (held_tail (x ∷ xs)) refl refl
 
 held_gone_row_of : (xs : List ℕ) → Explicit (held_gone xs) [] []
 held_gone_row_of [] = unfit
-held_gone_row_of (x ∷ xs) = implicit_row (held_gone (x ∷ xs)) refl
+held_gone_row_of (x ∷ xs) = implicit_row (held_gone (x ∷ xs)) refl refl
 
 by_op : (op : Op) (os : List Operand) → has_form op os ≡ true → Explicit (row_by op os) (uses_in os) (defs_in os)
 by_op (Registers op) (Def rd ∷ Use a ∷ Use b ∷ rest) e =
@@ -304,24 +338,25 @@ by_op PseudoBr (Block n ∷ rest) e =
 by_op PseudoCall (Symbol name ∷ Mask ∷ rest) e =
     let k = all_implicit is_argument argument_none_of rest e in
     let r = row_by PseudoCall (Symbol name ∷ Mask ∷ rest) in
-    subst (λ (x : List ℕ). Explicit r x (defs_in rest)) (sym k.0) (subst (λ (x : List ℕ). Explicit r [] x) (sym k.1) (implicit_row r refl))
+    subst (λ (x : List ℕ). Explicit r x (defs_in rest)) (sym k.0) (subst (λ (x : List ℕ). Explicit r [] x) (sym k.1) (implicit_row r refl refl))
 by_op PseudoRet os e =
     let k = all_implicit is_result result_none_of os e in
     let r = row_by PseudoRet os in
-    subst (λ (x : List ℕ). Explicit r x (defs_in os)) (sym k.0) (subst (λ (x : List ℕ). Explicit r [] x) (sym k.1) (implicit_row r refl))
-by_op PseudoCallIndirect (ImplicitUse q ∷ Mask ∷ rest) e =
-    ended (held_call (implicit_uses (ImplicitUse q ∷ Mask ∷ rest)) (outgoing_words rest)) rest is_argument argument_none_of
-    (behind (is_call_register q) (list_all is_argument rest) e) (held_call_row_of (implicit_uses (ImplicitUse q ∷ Mask ∷ rest))
-    (outgoing_words rest))
+    subst (λ (x : List ℕ). Explicit r x (defs_in os)) (sym k.0) (subst (λ (x : List ℕ). Explicit r [] x) (sym k.1) (implicit_row r refl refl))
+by_op PseudoCallIndirect (Use q ∷ Mask ∷ rest) e =
+    let k = all_implicit is_argument argument_none_of rest e in
+    let r = row_by PseudoCallIndirect (Use q ∷ Mask ∷ rest) in
+    subst (λ (x : List ℕ). Explicit r (q ∷ x) (defs_in rest)) (sym k.0)
+    (subst (λ (x : List ℕ). Explicit r (q ∷ []) x) (sym k.1) (held_row q (implicit_uses rest) (outgoing_words rest)))
 by_op PseudoTail (Symbol name ∷ rest) e =
     let r = row_by PseudoTail (Symbol name ∷ rest) in
-    ended r rest is_held_tail_use tail_none_of (held_tail_uses rest e) (implicit_row r refl)
+    ended r rest is_held_tail_use tail_none_of (held_tail_uses rest e) (implicit_row r refl refl)
 by_op PseudoTailIndirect (ImplicitUse q ∷ rest) e =
     ended (held_tail (implicit_uses (ImplicitUse q ∷ rest))) rest is_held_tail_use tail_none_of
     (behind (is_held_tail_register q) (list_all is_held_tail_use rest) e) (held_tail_row_of (implicit_uses (ImplicitUse q ∷ rest)))
 by_op NoReturnCall (Symbol name ∷ Mask ∷ rest) e =
     let r = row_by NoReturnCall (Symbol name ∷ Mask ∷ rest) in
-    ended r rest is_argument argument_none_of (last_arguments rest e) (implicit_row r refl)
+    ended r rest is_argument argument_none_of (last_arguments rest e) (implicit_row r refl refl)
 by_op NoReturnCallIndirect (ImplicitUse q ∷ Mask ∷ rest) e =
     ended (held_gone (implicit_uses (ImplicitUse q ∷ Mask ∷ rest))) rest is_argument argument_none_of
     (last_arguments rest (behind (is_call_register q) (list_all is_last_argument rest) e)) (held_gone_row_of (implicit_uses (ImplicitUse q ∷ Mask ∷ rest)))

@@ -23,7 +23,7 @@ use Rattle.mir_func.specs.Graph.{Program, Fetch, Here, EndOfBlock, Outside, belo
 use Rattle.mir_func.specs.Sound.{AreApart, ids_of, LastCloses, IsSound}
 use Rattle.sem_mir.specs.Align.{is_jump, Count, ByItems, ByEnds, moves_on, sync_point_at, AnyOrigin, RunsMatch}
 use Rattle.sem_mir.specs.InitialState.{first_of, IsInitialState}
-use Rattle.sem_mir.specs.Follow.{KindFits, MarkFits, InOrder, OnRow, GoesTo, Shape, IsEnd, SameEnd, KindsEndAlike}
+use Rattle.sem_mir.specs.Follow.{KindFits, StaysVolatile, MarkFits, InOrder, OnRow, GoesTo, Shape, IsEnd, SameEnd, KindsEndAlike}
 use Rattle.sem_mir.specs.Follow.{EndIsKept, EndComesFrom}
 use Rattle.sem_mir.specs.State.{State, content}
 use Rattle.sem_mir.proofs.Edges.{step_edge}
@@ -40,7 +40,7 @@ use Rattle.spill_simulation.proofs.Paths.{Lies, in_entry, in_item, lies_at, to_g
 use Rattle.spill_simulation.proofs.Rows.{renamed_row}
 use Rattle.spill_simulation.proofs.Running.{spilled_runs}
 use Rattle.spill_simulation.proofs.Shape.{goes_renamed, order_items, order_entry, each_block, each_item}
-use Rattle.spill_simulation.proofs.Shape.{each_entry, kinds_item, marks_item, renames, spilled_among, first_same}
+use Rattle.spill_simulation.proofs.Shape.{each_entry, volatile_item, kinds_item, marks_item, renames, spilled_among, first_same}
 use Rattle.spill_simulation.proofs.ShapeOf.{stores_new, Part, is_load, is_main, is_store, part_of}
 use Rattle.spill_simulation.proofs.Views.{IsGood}
 
@@ -135,6 +135,19 @@ module _ (objects : List Object) (src : List Block) (f : Function) (subs fsubs :
             each_item s f.slots homes entry f.blocks fsubs srcp (λ i. MarkFits i.kind i.origin) (λ i. MarkFits i.kind i.origin)
             (λ x h. marks_item s f.slots homes entry f.blocks fsubs srcp x h) b.items h
 
+  volatile_new : All (λ (b : Block). All (λ (i : Item). StaysVolatile srcp i.kind i.origin) b.items) new
+  volatile_new =
+      each_block s f.slots homes entry f.blocks fsubs srcp (λ b. All (λ (i : Item). StaysVolatile srcp i.kind i.origin) b.items)
+      (λ b. All (λ (i : Item). StaysVolatile srcp i.kind i.origin) b.items) (λ b h. items_of b h)
+      (λ b h. All-append (λ (i : Item). StaysVolatile srcp i.kind i.origin) (entry_stores b.id entry) (spilled_items s b.items)
+      (each_entry s f.slots homes entry f.blocks fsubs srcp (λ i. StaysVolatile srcp i.kind i.origin) b.id entry (λ h. tt)) (items_of b h)) f.blocks
+      shape.volatile where
+        items_of : (b : Block) → All (λ (i : Item). StaysVolatile srcp i.kind i.origin) b.items →
+            All (λ (i : Item). StaysVolatile srcp i.kind i.origin) (spilled_items s b.items)
+        items_of b h =
+            each_item s f.slots homes entry f.blocks fsubs srcp (λ i. StaysVolatile srcp i.kind i.origin) (λ i. StaysVolatile srcp i.kind i.origin)
+            (λ x h. volatile_item s f.slots homes entry f.blocks fsubs srcp x h) b.items h
+
   apart_new : AreApart (ids_of new)
   apart_new = subst AreApart (sym (ids_same s entry f.blocks)) sound.blocks_apart
 
@@ -157,6 +170,7 @@ module _ (objects : List Object) (src : List Block) (f : Function) (subs fsubs :
     back = λ q leads edge. (let w = shape.back q leads edge in by_kind w.0 w.1 w.1.kind refl w.2 w.3);
     order = order_new;
     items = kinds_new;
+    volatile = volatile_new;
     stores = stores_new s f.slots homes entry f.blocks fsubs srcp goods sound.targets sound.blocks_apart apart_new order_new src shape may.stored may.lives;
     marks = marks_new;
   } where

@@ -331,7 +331,7 @@ module _ (s : Spilling) (slots : List ℕ) (homes : AreHomes s slots) (resolve :
 
   pub loaded_of : (i : Instruction) (o : Origin) (fits : FitsCode s i o) (held : SlotsIn slots (Code i None)) (Alive Owed : ℕ → Type 0) (c d : Core) →
       Near s slots Alive Owed c d → LoadedFirst i c d → LoadedSecond i c d → Loaded s slots homes i o fits held (first_used s.homes i.operands) c d
-  loaded_of i o fits held Alive Owed c d near first second plain q k =
+  loaded_of i o fits held Alive Owed c d near first second q k =
       elim (cases_eq q 0) as (λ _. content c.regs q ≡ content d.regs (use_now s (first_used s.homes i.operands) q)) [
         | inl none ↦
             ap (content c.regs) none ∙ ap (content d.regs) (sym (ap (use_now s (first_used s.homes i.operands)) none
@@ -339,7 +339,7 @@ module _ (s : Spilling) (slots : List ℕ) (homes : AreHomes s slots) (resolve :
         | inr some ↦ by_slot some (slot_of s.homes q) refl
       ] where
         used : (q ≡ 0 → ⊥) → Contains (uses_in i.operands) q
-        used some = (explicit i fits.form).reads_used plain q k some
+        used some = (explicit i fits.form).explicit_used q k some
 
         by_found : (n : ℕ) → slot_of s.homes q ≡ Some n → (first_of s.homes (uses_in i.operands) ≡ Some n) ⊎
             ((m : ℕ) × (first_of s.homes (uses_in i.operands) ≡ Some m) × (m ≡ n → ⊥) × (other_of s.homes m (uses_in i.operands) ≡ Some n)) →

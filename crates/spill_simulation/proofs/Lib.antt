@@ -1,6 +1,7 @@
 pub mod Rows
 pub mod Acting
 pub mod Explicit
+pub mod Called
 pub mod Near
 pub mod Items
 pub mod Places

@@ -6,17 +6,19 @@
 use Rattle.std.proofs.Common.{◌≡◌, ◌⊎◌, ℕ, zero, suc, List, [], ◌∷◌, map, Contains, Option, Some, None, Bool, true, false, cond, nat_eq, refl, sym, ap, ◌∙◌}
 use Rattle.std.proofs.Common.{subst, inl, inr, eq-eqb, ne_eqb, slice_get, arith, All}
 use Rattle.std.specs.List.{list_any}
+use Rattle.std.specs.Prelude.{◌++◌, ◌&&◌, is_some}
 use Rattle.std.proofs.lemmas.Bool.{cases_eq, or_left, or_right}
 use Rattle.std.proofs.lemmas.List.Elements.{All-contains}
 use Rattle.rv64_instr.specs.declared.operand.Operand.{Operand}
 use Rattle.rv64_instr.specs.declared.operand.Operand.TheVariants.{Def, Use, ImplicitDef, ImplicitUse}
 use Rattle.rv64_instr.specs.declared.place.Place.{Place}
 use Rattle.rv64_instr.specs.declared.place.Place.TheVariants.{Register, Slot, Const}
-use Rattle.rv64_instr.specs.DefsAndUses.{caller_saved, reads, sets}
+use Rattle.rv64_instr.specs.declared.start.CallTarget.TheVariants.{Address}
+use Rattle.rv64_instr.specs.DefsAndUses.{caller_saved, reads, sets, callee_reads, way_reads}
 use Rattle.rv64_instr.specs.Instruction.{Instruction}
 use Rattle.rv64_instr.specs.LocationEffects.{has_implicit_uses, names_slot, slot_read, slot_set}
 use Rattle.rv64_instr.specs.Row.{Row, Fixes, Moves, Sets, Addresses, Loads, LoadsSlot, StoresSlot, Calls, Returns, row_of}
-use Rattle.rv64_instr.specs.Row.{implicit_uses}
+use Rattle.rv64_instr.specs.Row.{implicit_uses, Callee, Named, Held}
 use Rattle.mir_func.specs.declared.position.Origin.{Origin}
 use Rattle.mir_func.specs.declared.variable.VarId.{VarId}
 use Rattle.mir_func.specs.declared.item.ItemKind.TheVariants.{Code}
@@ -24,8 +26,8 @@ use Rattle.mir_func.specs.Sound.{SlotIn, SlotsIn}
 use Rattle.mir_func.proofs.Passed.{slots_passed, passed_slots}
 use Rattle.sem_mir.specs.Effects.{held_in, OnCore, EndAlike, SameWorld}
 use Rattle.sem_mir.specs.State.{Core, content, assigned}
-use Rattle.sem_mir.specs.Step.{Outcome, Falls, Goes, Gives, Traps, Asks, Breaks, act, with_core, seen, defined, given}
-use Rattle.sem_mir.proofs.Effects.{RowUses, RowDefines, told_by, act_apart, act_keeps, act_alike}
+use Rattle.sem_mir.specs.Step.{Outcome, Falls, Goes, Gives, Traps, Asks, Breaks, act, with_core, seen, defined, given, or_zero, called_at, are_written}
+use Rattle.sem_mir.proofs.Effects.{RowUses, RowDefines, Agreeing, told_by, act_apart, act_keeps, act_alike}
 use Rattle.sem_mir.proofs.Implicit.{AreImplicit, implicit}
 use Rattle.sem_mir.proofs.Outcomes.{alike_weaker}
 use Rattle.sem_mir.proofs.Places.{contains_head, contains_tail}
@@ -34,7 +36,9 @@ use Rattle.spill_code.specs.declared.spilling.Spilling.{Spilling}
 use Rattle.spill_code.specs.Rewrite.{slot_of, use_now, set_in, def_now, stand_in, renamed_operand}
 use Rattle.spill_simulation.specs.MaySpill.{defs_in, implicits_in, IsNoScratch, IsUntouched, FitsCode, AreHomes}
 use Rattle.spill_simulation.proofs.Acting.{SetsZero, Made, ReadsAlike, act_renamed}
-use Rattle.spill_simulation.proofs.Rows.{KeepsZero, renamed_row}
+use Rattle.spill_simulation.proofs.Called.{call_alike}
+use Rattle.spill_simulation.proofs.Explicit.{explicit_reads, plain_reads}
+use Rattle.spill_simulation.proofs.Rows.{KeepsZero, renamed_row, renamed_callee}
 
 pub none_in : (q : ℕ) → Contains [] q → ⊥
 none_in q (k, lt, e) = absurd (omega (arith, lt))
@@ -162,7 +166,7 @@ sets_renamed u d r i q k = by_row r i k where
   by_row _ i k = absurd (none_in q k)
 
 -- what isn't read explicitly
-uses_implicit : (os : List Operand) (q : ℕ) → Contains (implicit_uses os) q → Contains (implicits_in os) q
+pub uses_implicit : (os : List Operand) (q : ℕ) → Contains (implicit_uses os) q → Contains (implicits_in os) q
 uses_implicit [] q k = k
 uses_implicit (ImplicitUse r ∷ os) q k = by_test (nat_eq r 2) (λ j. uses_implicit os q j) k where
   by_test : (b : Bool) → (Contains (implicit_uses os) q → Contains (implicits_in os) q) → Contains (cond b (implicit_uses os) (r ∷ implicit_uses os)) q →
@@ -173,27 +177,85 @@ uses_implicit (ImplicitUse r ∷ os) q k = by_test (nat_eq r 2) (λ j. uses_impl
 uses_implicit (ImplicitDef r ∷ os) q k = contains_tail r q (implicits_in os) (uses_implicit os q k)
 uses_implicit (_ ∷ os) q k = uses_implicit os q k
 
-pub reads_implicit : (r : Row) (os : List Operand) (q : ℕ) → AreImplicit os r → has_implicit_uses r ≡ true → Contains (reads r) q → Contains (implicits_in os) q
-reads_implicit (Calls call) os q e i k = uses_implicit os q (subst (λ (xs : List ℕ). Contains xs q) e k)
-reads_implicit (Returns v) os q e i k = uses_implicit os q (subst (λ (xs : List ℕ). Contains xs q) e k)
-reads_implicit _ os q e i k = cc
+-- the registers that a row reads by implicit operands
+abbrev pub implicit_reads : Row → List ℕ
+implicit_reads (Calls call) = call.args
+implicit_reads (Returns v) = way_reads v.way ++ v.values
+implicit_reads _ = []
 
-pub same_implicit : (u d : ℕ → ℕ) (r : Row) → has_implicit_uses r ≡ true → renamed_row u d r ≡ r
-same_implicit u d (Calls call) i = refl
-same_implicit u d (Returns v) i = refl
-same_implicit u d _ i = cc
+-- they are implicit uses
+pub implicit_used : (r : Row) (os : List Operand) (q : ℕ) → AreImplicit os r → Contains (implicit_reads r) q → Contains (implicit_uses os) q
+implicit_used (Calls call) os q e k = subst (λ (xs : List ℕ). Contains xs q) e k
+implicit_used (Returns v) os q e k = subst (λ (xs : List ℕ). Contains xs q) e k
+implicit_used _ os q e k = absurd (none_in q k)
 
--- calls set the caller-saved registers, and returns none
-pub implicit_sets : (r : Row) → has_implicit_uses r ≡ true → (q : ℕ) → Contains (sets r) q → Contains caller_saved q
-implicit_sets (Calls call) i q k = k
-implicit_sets (Returns v) i q k = absurd (none_in q k)
-implicit_sets _ i q k = cc
+pub reads_implicit : (r : Row) (os : List Operand) (q : ℕ) → AreImplicit os r → Contains (implicit_reads r) q → Contains (implicits_in os) q
+reads_implicit r os q e k = uses_implicit os q (implicit_used r os q e k)
+
+-- a row reads by explicit operands or by implicit ones
+pub reads_either : (r : Row) (q : ℕ) → Contains (reads r) q → Contains (explicit_reads r) q ⊎ Contains (implicit_reads r) q
+reads_either (Calls call) q k = by_callee call.callee k where
+  by_callee : (callee : Callee) → Contains (callee_reads callee ++ call.args) q → Contains (callee_reads callee) q ⊎ Contains call.args q
+  by_callee (Named name) k = inr k
+  by_callee (Held r) (zero, lt, e) = inl (subst (λ (z : ℕ). Contains (r ∷ []) z) e (contains_head r []))
+  by_callee (Held r) (suc j, lt, e) = inr (j, omega (arith, lt), e)
+reads_either (Returns v) q k = inr k
+reads_either _ q k = inl k
+
+pub explicit_read : (r : Row) (q : ℕ) → Contains (explicit_reads r) q → Contains (reads r) q
+explicit_read (Calls call) q k = by_callee call.callee k where
+  by_callee : (callee : Callee) → Contains (callee_reads callee) q → Contains (callee_reads callee ++ call.args) q
+  by_callee (Named name) k = absurd (none_in q k)
+  by_callee (Held r) (zero, lt, e) = subst (λ (z : ℕ). Contains (r ∷ call.args) z) e (contains_head r call.args)
+  by_callee (Held r) (suc j, lt, e) = absurd (omega (arith, lt))
+explicit_read (Returns v) q k = absurd (none_in q k)
+explicit_read _ q k = k
+
+pub implicit_read : (r : Row) (q : ℕ) → Contains (implicit_reads r) q → Contains (reads r) q
+implicit_read (Calls call) q k = by_callee call.callee where
+  by_callee : (callee : Callee) → Contains (callee_reads callee ++ call.args) q
+  by_callee (Named name) = k
+  by_callee (Held r) = contains_tail r q call.args k
+implicit_read (Returns v) q k = k
+implicit_read _ q k = absurd (none_in q k)
+
+-- with other registers it sets what it did
+pub sets_implicit : (u d : ℕ → ℕ) (r : Row) → has_implicit_uses r ≡ true → sets (renamed_row u d r) ≡ sets r
+sets_implicit u d (Calls call) i = refl
+sets_implicit u d (Returns v) i = refl
+sets_implicit u d _ i = cc
 
 pub row_uses_reads : (r : Row) (x : Place) (P : Place → Type 0) → RowUses r x → ((q : ℕ) → Contains (reads r) q → P (Register q)) →
     ((n : ℕ) → RowUses r (Slot n) → P (Slot n)) → P x
 row_uses_reads r (Register q) P k f g = f q k
 row_uses_reads r (Slot n) P k f g = g n k
 row_uses_reads r (Const z) P k f g = absurd k
+
+-- a call and a return, and such code with other explicit registers, do alike where they read alike
+pub act_implicit : (u e : ℕ → ℕ) (r : Row) (c d : Core) → SameWorld c d → has_implicit_uses r ≡ true →
+    ((q : ℕ) → Contains (explicit_reads r) q → content c.regs q ≡ content d.regs (u q)) →
+    ((q : ℕ) → Contains (implicit_reads r) q → content c.regs q ≡ content d.regs q) →
+    ((n : ℕ) → RowUses r (Slot n) → c.slots n ≡ d.slots n) → EndAlike (Agreeing r c d) (act r c) (act (renamed_row u e r) d)
+act_implicit u e (Calls call) c d world i loaded same slots =
+    call_alike call (renamed_callee u e call.callee) c d world (target call.callee loaded) (written call.callee loaded) same slots where
+      target : (callee : Callee) → ((q : ℕ) → Contains (callee_reads callee) q → content c.regs q ≡ content d.regs (u q)) →
+          called_at c callee ≡ called_at d (renamed_callee u e callee)
+      target (Named name) h = refl
+      target (Held r) h = ap (λ (o : Option ℕ). Address (or_zero o)) (h r (contains_head r []))
+
+      written : (callee : Callee) → ((q : ℕ) → Contains (callee_reads callee) q → content c.regs q ≡ content d.regs (u q)) →
+          are_written c (callee_reads callee) ≡ are_written d (callee_reads (renamed_callee u e callee))
+      written (Named name) h = refl
+      written (Held r) h = ap (λ (o : Option ℕ). is_some o && true) (h r (contains_head r []))
+act_implicit u e (Returns v) c d world i loaded same slots = act_alike (Returns v) c d world (λ x k. row_uses_reads (Returns v) x
+    (λ y. held_in y c ≡ held_in y d) k same slots)
+act_implicit u e _ c d world i loaded same slots = cc
+
+-- calls set the caller-saved registers, and returns none
+pub implicit_sets : (r : Row) → has_implicit_uses r ≡ true → (q : ℕ) → Contains (sets r) q → Contains caller_saved q
+implicit_sets (Calls call) i q k = k
+implicit_sets (Returns v) i q k = absurd (none_in q k)
+implicit_sets _ i q k = cc
 
 -- the two cores
 pub record Near (s : Spilling) (slots : List ℕ) (Alive Owed : ℕ → Type 0) (c d : Core) : Type 0 where
@@ -276,7 +338,7 @@ module _ (s : Spilling) (slots : List ℕ) (homes : AreHomes s slots) where
 
     -- both read alike: explicit registers under their names in each
     abbrev pub Loaded : Core → Core → Type 0
-    Loaded c d = has_implicit_uses row ≡ false → (q : ℕ) → Contains (reads row) q → content c.regs q ≡ content d.regs (use_now s u q)
+    Loaded c d = (q : ℕ) → Contains (explicit_reads row) q → content c.regs q ≡ content d.regs (use_now s u q)
 
     -- nothing that stays in the first is set in the second
     unset_untouched : has_implicit_uses row ≡ false → (q : ℕ) → IsUntouched s q → (Contains (sets row) q → ⊥) → Contains (sets row') q → ⊥
@@ -324,12 +386,12 @@ module _ (s : Spilling) (slots : List ℕ) (homes : AreHomes s slots) where
     implicit_agree c d c' d' = SameWorld c' d' × ((x : Place) → RowDefines row x ⊎ (held_in x c ≡ held_in x d) → held_in x c' ≡ held_in x d')
 
     implicit_acted : (Alive Owed : ℕ → Type 0) → has_implicit_uses row ≡ true → (c d c' d' : Core) → Near s slots Alive Owed c d → implicit_agree c d c' d' →
-        Kept row c c' × Untold c c' → Kept row d d' × Untold d d' → Acted c d c' d'
+        Kept row c c' × Untold c c' → Kept row' d d' × Untold d d' → Acted c d c' d'
     implicit_acted Alive Owed implied c d c' d' near (world, held_alike) (kc, tc) (kd, td) = record {
       world = world;
       regs = λ r h. held_alike (Register r) (inr (near.regs r h));
       slots_alike = λ n k. held_alike (Slot n) (inr (near.slots_alike n k));
-      homes_stay = λ r n e. kd (Slot n) (λ h. homes.fresh r n e (slot_set_in slots row n held.0 (passed_slots slots i held.1) h));
+      homes_stay = λ r n e. kd (Slot n) (no_home_set r n e);
       regs_stay = λ r out. kc (Register r) out;
       set = λ plain r k. (let bad : true ≡ false = sym implied ∙ plain in cc);
       told = tc;
@@ -342,7 +404,7 @@ module _ (s : Spilling) (slots : List ℕ) (homes : AreHomes s slots) where
       both r e = on_both (Kept r e) (Untold e) (act r e) (act_kept r e) (act_untold r e)
 
       read : has_implicit_uses row ≡ false → ReadsAlike (use_now s u) (def_now s) sets_zero row c d
-      read plain = record { regs = loaded plain; slots = λ n k. near.slots_alike n (slot_read_in slots row n held.0 k) }
+      read plain = record { regs = λ q k. loaded q (subst (λ (xs : List ℕ). Contains xs q) (sym (plain_reads row plain)) k); slots = λ n k. near.slots_alike n (slot_read_in slots row n held.0 k) }
 
       by_row : (z : Bool) → has_implicit_uses row ≡ z → EndAlike (Acted c d) (act row c) (act row' d)
       by_row false z =
@@ -352,15 +414,13 @@ module _ (s : Spilling) (slots : List ℕ) (homes : AreHomes s slots) where
           (alike_and (Made (use_now s u) (def_now s) sets_zero row) (λ e. Kept row c e × Untold c e) (λ e. Kept row' d e × Untold d e)
           (act row c) (act row' d) m (both row c) (both row' d))
       by_row true z =
-          let m = act_alike row c d near.world (λ x k. row_uses_reads row x (λ y. held_in y c ≡ held_in y d) k
-          (λ q j. near.regs q (fits.implicits z q (reads_implicit row i.operands q (implicit i) z j)))
-          (λ n j. near.slots_alike n (slot_used_in slots row n held.0 (passed_slots slots i held.1) j))) in
-          let e : row' ≡ row = same_implicit (use_now s u) (def_now s) row z in
-          subst (λ (r : Row). EndAlike (Acted c d) (act row c) (act r d)) (sym e)
-          (alike_weaker (λ c' d'. implicit_agree c d c' d' × (Kept row c c' × Untold c c') × (Kept row d d' × Untold d d'))
-          (Acted c d) (λ c' d' h. implicit_acted Alive Owed z c d c' d' near h.0 h.1 h.2) (act row c) (act row d)
-          (alike_and (implicit_agree c d) (λ e. Kept row c e × Untold c e) (λ e. Kept row d e × Untold d e)
-          (act row c) (act row d) m (both row c) (both row d)))
+          let m = act_implicit (use_now s u) (def_now s) row c d near.world z loaded
+          (λ q j. near.regs q (fits.implicits z q (reads_implicit row i.operands q (implicit i) j)))
+          (λ n j. near.slots_alike n (slot_used_in slots row n held.0 (passed_slots slots i held.1) j)) in
+          alike_weaker (λ c' d'. implicit_agree c d c' d' × (Kept row c c' × Untold c c') × (Kept row' d d' × Untold d d'))
+          (Acted c d) (λ c' d' h. implicit_acted Alive Owed z c d c' d' near h.0 h.1 h.2) (act row c) (act row' d)
+          (alike_and (implicit_agree c d) (λ e. Kept row c e × Untold c e) (λ e. Kept row' d e × Untold d e)
+          (act row c) (act row' d) m (both row c) (both row' d))
 
     -- ---- pairs
 

@@ -15,7 +15,7 @@ use Rattle.rv64_instr.specs.Arithmetic.{word}
 use Rattle.rv64_instr.specs.Instruction.{Instruction}
 use Rattle.rv64_instr.specs.declared.symbol.Half.TheVariants.{Upper}
 use Rattle.rv64_instr.specs.Row.{Row, Fixes, Moves, Sets, Addresses, Loads, Stores, LoadsSlot, StoresSlot, Branches, Jumps, Calls, Returns, Unfit, row_of}
-use Rattle.rv64_instr.specs.Row.{row_by, move_row, add_row, immediate_row, object_row, implicit_uses, outgoing_words, Named, Back, held_call, held_tail}
+use Rattle.rv64_instr.specs.Row.{row_by, move_row, add_row, immediate_row, object_row, implicit_uses, outgoing_words, Callee, Named, Held, Back, held_tail}
 use Rattle.rv64_instr.specs.Row.{held_gone}
 use Rattle.rv64_instr.specs.Row.{Tail, Never}
 use Rattle.spill_code.specs.Rewrite.{renamed_operand, renamed_code}
@@ -31,6 +31,10 @@ module _ (at_use at_def : ℕ → ℕ) where
   renamed_base (ObjectAt n) = ObjectAt n
   renamed_base (BesidePart r y) = BesidePart (at_use r) y
 
+  abbrev pub renamed_callee : Callee → Callee
+  renamed_callee (Named name) = Named name
+  renamed_callee (Held r) = Held (at_use r)
+
   -- the row with other explicit registers
   abbrev pub renamed_row : Row → Row
   renamed_row (Fixes rd n) = Fixes (at_def rd) n
@@ -43,7 +47,7 @@ module _ (at_use at_def : ℕ → ℕ) where
   renamed_row (StoresSlot rs n) = StoresSlot (at_use rs) n
   renamed_row (Branches op a b t) = Branches op (at_use a) (at_use b) t
   renamed_row (Jumps t) = Jumps t
-  renamed_row (Calls call) = Calls call
+  renamed_row (Calls call) = Calls (record { callee = renamed_callee call.callee; args = call.args; outgoing = call.outgoing })
   renamed_row (Returns v) = Returns v
   renamed_row Unfit = Unfit
 
@@ -93,10 +97,6 @@ module _ (at_use at_def : ℕ → ℕ) where
     object_same Addi rd n o = refl
     object_same _ rd n o = refl
 
-    held_call_same : (xs outgoing : List ℕ) → held_call xs outgoing ≡ renamed_row (held_call xs outgoing)
-    held_call_same [] outgoing = refl
-    held_call_same (r ∷ xs) outgoing = refl
-
     held_tail_same : (xs : List ℕ) → held_tail xs ≡ renamed_row (held_tail xs)
     held_tail_same [] = refl
     held_tail_same (r ∷ xs) = refl
@@ -122,7 +122,7 @@ module _ (at_use at_def : ℕ → ℕ) where
     by_op PseudoBr (Block target ∷ rest) = refl
     by_op PseudoCall (Symbol name ∷ rest) = λ i. Calls (record { callee = Named name; args = uses_same rest i; outgoing = outgoing_same rest i })
     by_op PseudoRet os = ap (λ (rs : List ℕ). Returns (record { way = Back; values = rs })) (uses_same os)
-    by_op PseudoCallIndirect os = (λ i. held_call (uses_same os i) (outgoing_same os i)) ∙ held_call_same (implicit_uses os) (outgoing_words os)
+    by_op PseudoCallIndirect (Use r ∷ rest) = λ i. Calls (record { callee = Held (at_use r); args = uses_same rest i; outgoing = outgoing_same rest i })
     by_op PseudoTail (Symbol name ∷ rest) = ap (λ (rs : List ℕ). Returns (record { way = Tail (Named name); values = rs })) (uses_same rest)
     by_op PseudoTailIndirect os = ap held_tail (uses_same os) ∙ held_tail_same (implicit_uses os)
     by_op NoReturnCall (Symbol name ∷ rest) = ap (λ (rs : List ℕ). Returns (record { way = Never (Named name); values = rs })) (uses_same rest)

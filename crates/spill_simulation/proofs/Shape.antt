@@ -18,7 +18,7 @@ use Rattle.mir_func.specs.declared.item.ItemKind.TheVariants.{Code, Mark, Phi}
 use Rattle.mir_func.specs.Graph.{Program, Fetch, Here, below, block_start}
 use Rattle.mir_func.specs.Sound.{OriginIn}
 use Rattle.mir_func.specs.Positions.{position_of}
-use Rattle.sem_mir.specs.Follow.{MayAdd, HasClass, ItemHasClass, RowFits, KindFits, MarkFits, rank, next_rank, InOrder, Among, none, same, left}
+use Rattle.sem_mir.specs.Follow.{MayAdd, HasClass, ItemHasClass, RowFits, KindFits, StaysVolatile, MarkFits, rank, next_rank, InOrder, Among, none, same, left}
 use Rattle.rv64_instr.specs.View.{class_of}
 use Rattle.sem_mir.specs.InitialState.{first_of}
 use Rattle.sem_mir.specs.Follow.{GoesTo}
@@ -223,6 +223,20 @@ module _ (s : Spilling) (slots : List ℕ) (homes : AreHomes s slots) where
           b.source_end i.origin))
       by_kind (Phi p n) fits kind = All-cons (λ (i : Item). KindFits srcp i.kind b.source_end i.origin) _ [] tt (All-nil (λ (i : Item). KindFits srcp i.kind
           b.source_end i.origin))
+
+    abbrev VolatileIs : Item → Type 0
+    VolatileIs i = StaysVolatile srcp i.kind i.origin
+
+    pub volatile_item : (x : Item) → VolatileIs x → All VolatileIs (spilled_item s x)
+    volatile_item x h = by_kind x.kind x.origin h where
+      main : (i : Instruction) (n : Option ℕ) (o : Origin) → StaysVolatile srcp (Code i n) o → StaysVolatile srcp (Code (spilled_code s i) n) o
+      main i n (Kept p) h = h
+      main i n (Before p) h = tt
+
+      by_kind : (k : ItemKind) (o : Origin) → StaysVolatile srcp k o → All VolatileIs (kind_items s k o x.loc)
+      by_kind (Code i n) o h = each_code VolatileIs i n o x.loc (λ m r e k. tt) (main i n o h) (λ m. tt)
+      by_kind (Mark v m) o h = All-cons VolatileIs _ [] tt (All-nil VolatileIs)
+      by_kind (Phi p n) o h = All-cons VolatileIs _ [] tt (All-nil VolatileIs)
 
     abbrev MarkIs : Item → Type 0
     MarkIs i = MarkFits i.kind i.origin

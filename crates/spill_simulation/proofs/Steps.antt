@@ -6,11 +6,12 @@ use Rattle.std.proofs.lemmas.Bool.{or_left, or_right}
 use Rattle.std.proofs.lemmas.Map.Views.{Contains-from_any}
 use Rattle.rv64_instr.specs.Row.{Input, Content, Number, PartOf}
 use Rattle.rv64_instr.specs.Row.{Base, PointedBy, ObjectAt, BesidePart}
+use Rattle.rv64_instr.specs.Row.{Callee, Named, Held}
 use Rattle.rv64_instr.specs.declared.place.Place.{Place}
 use Rattle.rv64_instr.specs.declared.place.Place.TheVariants.{Register}
-use Rattle.rv64_instr.specs.DefsAndUses.{reads, sets, input_reads, base_reads}
+use Rattle.rv64_instr.specs.DefsAndUses.{reads, sets, input_reads, base_reads, callee_reads}
 use Rattle.rv64_instr.specs.Instruction.{Instruction}
-use Rattle.rv64_instr.specs.LocationEffects.{is_call, has_implicit_uses, first_use, second_use, input_place, base_place, is_register, is_implicit_use}
+use Rattle.rv64_instr.specs.LocationEffects.{is_call, has_implicit_uses, first_use, second_use, input_place, base_place, callee_place, is_register, is_implicit_use}
 use Rattle.rv64_instr.specs.Row.{Row, Fixes, Moves, Sets, Addresses, Loads, Stores, LoadsSlot, StoresSlot, Branches, Jumps, Calls, Returns, Unfit, row_of}
 use Rattle.mir_func.specs.declared.position.Pos.{Pos}
 use Rattle.mir_func.specs.declared.item.Item.{Item}
@@ -29,6 +30,7 @@ use Rattle.sem_mir.specs.Step.{do_item, step}
 use Rattle.sem_mir.proofs.Edges.{step_edge}
 use Rattle.sem_mir.proofs.Outcomes.{step_item}
 use Rattle.sem_simulation.specs.Added.{IsPlain}
+use Rattle.spill_simulation.proofs.Explicit.{explicit_reads}
 use Rattle.spill_simulation.proofs.Near.{none_in, Untold, act_untold}
 use Rattle.spill_simulation.proofs.Rows.{renamed_row}
 
@@ -83,29 +85,32 @@ base_used (ObjectAt n) q k = absurd (none_in q k)
 base_used (BesidePart r y) q k = register_is q r (one_is r q k)
 
 -- the first place that it reads, or the second
-explicit_used : (r : Row) (q : ℕ) → has_implicit_uses r ≡ false → Contains (reads r) q → (is_register q (first_use r) || is_register q (second_use r)) ≡ true
-explicit_used (Moves rd rs) q i k = or_left (is_register q (Some (Register rs))) _ (register_is q rs (one_is rs q k))
-explicit_used (Sets rd op a b) q i (zero, lt, e) = or_left (is_register q (Some (Register a))) _ (register_is q a e)
-explicit_used (Sets rd op a b) q i (suc k, lt, e) =
+explicit_used : (r : Row) (q : ℕ) → Contains (explicit_reads r) q → (is_register q (first_use r) || is_register q (second_use r)) ≡ true
+explicit_used (Moves rd rs) q k = or_left (is_register q (Some (Register rs))) _ (register_is q rs (one_is rs q k))
+explicit_used (Sets rd op a b) q (zero, lt, e) = or_left (is_register q (Some (Register a))) _ (register_is q a e)
+explicit_used (Sets rd op a b) q (suc k, lt, e) =
     or_right (is_register q (Some (Register a))) (is_register q (input_place b)) (input_used b q (k, omega (arith, lt), e))
-explicit_used (Loads rd op b o) q i k = or_left (is_register q (base_place b)) _ (base_used b q k)
-explicit_used (Stores op rs b o) q i (zero, lt, e) = or_left (is_register q (Some (Register rs))) _ (register_is q rs e)
-explicit_used (Stores op rs b o) q i (suc k, lt, e) =
+explicit_used (Loads rd op b o) q k = or_left (is_register q (base_place b)) _ (base_used b q k)
+explicit_used (Stores op rs b o) q (zero, lt, e) = or_left (is_register q (Some (Register rs))) _ (register_is q rs e)
+explicit_used (Stores op rs b o) q (suc k, lt, e) =
     or_right (is_register q (Some (Register rs))) (is_register q (base_place b)) (base_used b q (k, omega (arith, lt), e))
-explicit_used (StoresSlot rs n) q i k = or_left (is_register q (Some (Register rs))) _ (register_is q rs (one_is rs q k))
-explicit_used (Branches op a b t) q i (zero, lt, e) = or_left (is_register q (Some (Register a))) _ (register_is q a e)
-explicit_used (Branches op a b t) q i (suc k, lt, e) =
+explicit_used (StoresSlot rs n) q k = or_left (is_register q (Some (Register rs))) _ (register_is q rs (one_is rs q k))
+explicit_used (Branches op a b t) q (zero, lt, e) = or_left (is_register q (Some (Register a))) _ (register_is q a e)
+explicit_used (Branches op a b t) q (suc k, lt, e) =
     or_right (is_register q (Some (Register a))) (is_register q (Some (Register b))) (register_is q b (one_is b q (k, omega (arith, lt), e)))
-explicit_used (Calls call) q i k = cc
-explicit_used (Returns v) q i k = cc
-explicit_used _ q i k = absurd (none_in q k)
+explicit_used (Calls call) q k = by_callee call.callee k where
+  by_callee : (callee : Callee) → Contains (callee_reads callee) q → (is_register q (callee_place callee) || false) ≡ true
+  by_callee (Named name) k = absurd (none_in q k)
+  by_callee (Held r) k = or_left (is_register q (Some (Register r))) false (register_is q r (one_is r q k))
+explicit_used (Returns v) q k = absurd (none_in q k)
+explicit_used _ q k = absurd (none_in q k)
 
 pub live_used : (f : Program) (r : ℕ) (p : Pos) (x : Item) (i : Instruction) (n : Option ℕ) → f.fetch p ≡ Here x → x.kind ≡ Code i n →
-    has_implicit_uses (row_of i) ≡ false → Contains (reads (row_of i)) r → Live f (Register r) p
-live_used f r p x i n at is plain k =
+    Contains (explicit_reads (row_of i)) r → Live f (Register r) p
+live_used f r p x i n at is k =
     used (subst (λ (y : Fetch). Uses y (Register r)) (sym at) (subst (λ (y : ItemKind). KindUses y (Register r)) (sym is)
     (or_left (is_register r (first_use (row_of i)) || is_register r (second_use (row_of i)))
-    (has_implicit_uses (row_of i) && list_any (is_implicit_use r) i.operands) (explicit_used (row_of i) r plain k))))
+    (has_implicit_uses (row_of i) && list_any (is_implicit_use r) i.operands) (explicit_used (row_of i) r k))))
 
 -- ---- plain code
 

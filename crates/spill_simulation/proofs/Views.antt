@@ -34,7 +34,6 @@ use Rattle.sem_mir.specs.Live.{Live}
 use Rattle.sem_mir.specs.State.{Core, State, content, updated}
 use Rattle.sem_mir.specs.Step.{Outcome, Falls, Goes, Gives, Traps, Asks, Breaks, with_core, do_item, set_register}
 use Rattle.sem_mir.proofs.Edges.{step_from_before}
-use Rattle.sem_mir.proofs.Implicit.{implicit}
 use Rattle.sem_mir.proofs.Places.{put_same, put_other, contains_head, contains_tail}
 use Rattle.sem_simulation.specs.Added.{Standing, IsPlain, IsQuiet, Opening, Level, Ahead, Owing, MayStand}
 use Rattle.sem_simulation.specs.Added.{MayCome, AddedMatchStates, View, ended, both, before, opening, behind, paired}
@@ -48,11 +47,11 @@ use Rattle.spill_code.specs.Rewrite.{slot_of, or_else, set_in, use_now, def_now,
 use Rattle.spill_code.specs.Rewrite.{first_defined, spilled_code, load, store, added, loads, stores, two_loads}
 use Rattle.spill_code.specs.Rewrite.{code_items, kind_items, spilled_item, spilled_items, entry_stores, spilled_blocks}
 use Rattle.spill_simulation.specs.MaySpill.{uses_in, defs_in, FitsCode, Fits, AreHomes, IsUntouched}
-use Rattle.spill_simulation.proofs.Explicit.{explicit, first_from, other_from, used_is, other_is, defined_is, first_of as first_among}
+use Rattle.spill_simulation.proofs.Explicit.{explicit, explicit_reads, first_from, other_from, used_is, other_is, defined_is, first_of as first_among}
 use Rattle.spill_simulation.proofs.Items.{After as Passed, code_after, after_near, near_on, near_load, near_store}
 use Rattle.spill_simulation.proofs.Items.{load_does, load_traps, store_does, act_traps, debug_near, debug_now}
 use Rattle.spill_simulation.proofs.Items.{LoadedFirst, LoadedSecond, loaded_of}
-use Rattle.spill_simulation.proofs.Near.{none_in, no_zero_saved, Near, keeps_zero, implicit_sets, reads_implicit}
+use Rattle.spill_simulation.proofs.Near.{none_in, no_zero_saved, Near, keeps_zero, implicit_sets}
 use Rattle.spill_simulation.proofs.Places.{Stands, stands_at, holds_at, same_stands, order_apart, kept_once, next_code, next_code_at}
 use Rattle.spill_simulation.proofs.Rows.{row_renamed}
 use Rattle.spill_simulation.proofs.Steps.{falls_edge, goes_edge, debug_edge, live_on, live_used}
@@ -371,22 +370,13 @@ module _ (s : Spilling) (slots : List ℕ) (homes : AreHomes s slots) (entry : L
 
       -- a spilled register that is used is read, and so is live here
       used_read : (r n : ℕ) → Contains (uses_in ins.operands) r → slot_of s.homes r ≡ Some n →
-          (has_implicit_uses (row_of ins) ≡ false) × Contains (reads (row_of ins)) r
-      used_read r n k e = by_row (has_implicit_uses (row_of ins)) refl where
+          Contains (explicit_reads (row_of ins)) r × Contains (reads (row_of ins)) r
+      used_read r n k e = ((explicit ins fits.form).used_explicit r k not_zero, (explicit ins fits.form).used_reads r k not_zero) where
         not_zero : r ≡ 0 → ⊥
         not_zero z = let bad : None ≡ Some n = sym homes.no_zero ∙ ap (slot_of s.homes) (sym z) ∙ e in cc
 
-        is_read : Contains (reads (row_of ins)) r
-        is_read = (explicit ins fits.form).used_reads r k not_zero
-
-        by_row : (z : Bool) → has_implicit_uses (row_of ins) ≡ z → (has_implicit_uses (row_of ins) ≡ false) × Contains (reads (row_of ins)) r
-        by_row false z = (z, is_read)
-        by_row true z =
-            let none = (fits.implicits z r (reads_implicit (row_of ins) ins.operands r (implicit ins) z is_read)).0 in
-            let bad : None ≡ Some n = sym none ∙ e in cc
-
       used_live : (r n : ℕ) → Contains (uses_in ins.operands) r → slot_of s.homes r ≡ Some n → Alive b i r
-      used_live r n k e = let w = used_read r n k e in live_used f r (at b i) x ins num stood refl w.0 w.1
+      used_live r n k e = let w = used_read r n k e in live_used f r (at b i) x ins num stood refl w.0
 
       -- a load of its slot, which stops where the code does
       load_step : (into r n : ℕ) → Contains (uses_in ins.operands) r → slot_of s.homes r ≡ Some n → (P : Core → Type 0) (c d : Core) →

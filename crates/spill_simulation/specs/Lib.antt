@@ -1,2 +1,3 @@
 pub mod MaySpill
 pub mod Follows
+pub use Rattle.spill_code.specs as spill_code

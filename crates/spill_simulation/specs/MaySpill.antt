@@ -6,7 +6,7 @@ use Rattle.rv64_instr.specs.declared.place.Place.TheVariants.{Register, Slot, Co
 use Rattle.rv64_instr.specs.DefsAndUses.{caller_saved}
 use Rattle.rv64_instr.specs.Form.{has_form}
 use Rattle.rv64_instr.specs.Instruction.{Instruction}
-use Rattle.rv64_instr.specs.LocationEffects.{has_implicit_uses}
+use Rattle.rv64_instr.specs.LocationEffects.{has_implicit_uses, is_global_register}
 use Rattle.rv64_instr.specs.Row.{row_of}
 use Rattle.mir_func.specs.declared.position.Pos.{Pos}
 use Rattle.mir_func.specs.declared.position.Origin.{Origin}
@@ -74,5 +74,6 @@ pub record AreHomes (s : Spilling) (slots : List ℕ) : Type 0 where
   pub kept : (r n : ℕ) → slot_of s.homes r ≡ Some n → Contains caller_saved r → ⊥
   pub no_zero : slot_of s.homes 0 ≡ None
   pub no_pointer : slot_of s.homes 2 ≡ None
+  pub no_global : (r : ℕ) → is_global_register r ≡ true → slot_of s.homes r ≡ None
   pub own : (q r n : ℕ) → slot_of s.homes q ≡ Some n → slot_of s.homes r ≡ Some n → q ≡ r
   pub fresh : (r n : ℕ) → slot_of s.homes r ≡ Some n → Contains slots n → ⊥

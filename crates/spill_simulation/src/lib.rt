@@ -5,4 +5,6 @@
 //! registers.
 #![tactic(auto)]
 
+pub use spill_code as spill_code_crate;
+
 pub mod laws;

@@ -1,0 +1,1 @@
+pub use Rattle.read_program.proofs as read_program

@@ -1,1 +1,2 @@
 pub mod StripText
+pub use Rattle.read_program.specs as read_program

@@ -4,7 +4,7 @@ use Rattle.std.specs.List.{flat_map}
 use Rattle.std.specs.Option.{unwrap_or}
 use Rattle.std.specs.HashMap.{HashMap, get}
 use Rattle.mir_func.specs.declared.block.Block.{Block}
-use Rattle.fold_rule.specs.Tails.{is_number}
+use Rattle.fold_rule_proof.specs.fold_rule.Tails.{is_number}
 use Rattle.fold_rule_proof.specs.Kills.{once}
 use Rattle.fold_undef.specs.declared.kill.Kill.{Kill}
 use Rattle.fold_undef.specs.Kill.{kill_item, kills_in}

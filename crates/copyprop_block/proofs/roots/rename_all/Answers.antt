@@ -1,5 +1,5 @@
 use Rattle.std.proofs.Common.{set, sym, ap, ◌∙◌}
-use Rattle.pass_trait.proofs.InPlaceMap.{map_turn}
+use Rattle.pass_salvage.proofs.pass_trait.InPlaceMap.{map_turn}
 use Rattle.copyprop_block.specs.Roots.{renamed_operand}
 use Rattle.copyprop_block.proofs.roots.rename_all.Goals as goal
 

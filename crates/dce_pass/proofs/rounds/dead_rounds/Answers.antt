@@ -3,7 +3,7 @@ use Rattle.mir_func.specs.declared.debug_substitution.DebugSubstitution.{DebugSu
 use Rattle.mir_func.specs.Function.{Function}
 use Rattle.pass_trait.specs.declared.loss.Loss.{Loss}
 use Rattle.pass_trait.specs.Sizes.{code_count}
-use Rattle.dce_rule.specs.Dead.{IsRound}
+use Rattle.dce_proof.specs.dce_rule.Dead.{IsRound}
 use Rattle.dce_proof.specs.Round.{IsDeadRound, IsRoundWith}
 use Rattle.dce_proof.proofs.Follows.{round_code}
 use Rattle.dce_pass.proofs.Loop.{going_begins, room, going_on, going_stops, going_ends}

@@ -5,7 +5,7 @@ use Rattle.mir_func.specs.Sound.{IsSound}
 use Rattle.pass_trait.specs.declared.loss.Loss.{Loss}
 use Rattle.dce_salvage_proof.specs.SalvageLaws.{all_off, function_off}
 use Rattle.dce_round.specs.Round.{IsDeadRound}
-use Rattle.pass_liveness.specs.Liveness.{AreLiveSets}
+use Rattle.dce_sweep.specs.pass_liveness.Liveness.{AreLiveSets}
 use Rattle.dce_salvage_proof.proofs.Chain.{salvage_numbers}
 use Rattle.dce_round.proofs.Live.{still_live}
 use Rattle.dce_round.proofs.Made.{some_dead, none_dead, round_made}

@@ -7,7 +7,7 @@ use Rattle.mir_func.specs.Exits.{exit_of}
 use Rattle.mir_func.specs.Sound.{SlotsIn}
 use Rattle.mir_func.proofs.Ways.{IsOut}
 use Rattle.pass_liveness.specs.Sets.{has}
-use Rattle.dce_rule.specs.Dead.{Places}
+use Rattle.dce_analysis.specs.dce_rule.Dead.{Places}
 use Rattle.dce_stale.specs.Flow.{wrong_past, goes_on, IsHanded}
 use Rattle.dce_stale.specs.Sets.{Handed}
 use Rattle.dce_stale.proofs.Steps.{get_item, step_at, handed_item_grows, handed_item_stays}

@@ -4,7 +4,7 @@ use Rattle.mir_func.specs.declared.block.Block.{Block}
 use Rattle.mir_func.specs.declared.item.Item.{Item}
 use Rattle.mir_func.specs.Function.{Function}
 use Rattle.mir_func.specs.Sound.{IsSound}
-use Rattle.dce_rule.specs.Wrong.{silenced_block}
+use Rattle.dce_stale.specs.dce_rule.Wrong.{silenced_block}
 use Rattle.dce_stale.specs.Sets.{StaleSets, wrong_of, starts_of}
 use Rattle.dce_sweep.specs.Left.{lost_in}
 use Rattle.dce_sweep.proofs.Steps.{one_left, one_lost}

@@ -1,6 +1,6 @@
 use Rattle.std.proofs.Common.{◌≡◌, ◌++◌, map, take}
-use Rattle.dce_rule.specs.Dead.{Ends}
-use Rattle.dce_rule.specs.Wrong.{silenced_block}
+use Rattle.dce_stale.specs.dce_rule.Dead.{Ends}
+use Rattle.dce_stale.specs.dce_rule.Wrong.{silenced_block}
 use Rattle.dce_stale.specs.Sets.{AreVerdicts, wrong_of, starts_of}
 use Rattle.dce_sweep.specs.Left.{lost_in}
 use Rattle.dce_sweep.proofs.left.left_blocks.Given as goal

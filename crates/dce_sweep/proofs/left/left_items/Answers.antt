@@ -4,7 +4,7 @@ use Rattle.mir_func.specs.declared.item.Item.{Item}
 use Rattle.mir_func.specs.Exits.{exit_of}
 use Rattle.mir_func.specs.Sound.{SlotsIn}
 use Rattle.pass_liveness.specs.Sets.{has}
-use Rattle.dce_rule.specs.Dead.{Places}
+use Rattle.dce_stale.specs.dce_rule.Dead.{Places}
 use Rattle.dce_stale.specs.Flow.{wrong_past, wrong_next, goes_on}
 use Rattle.dce_stale.proofs.Steps.{get_item}
 use Rattle.dce_sweep.specs.Left.{left_of, lost_of}

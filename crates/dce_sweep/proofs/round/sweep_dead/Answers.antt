@@ -3,10 +3,10 @@ use Rattle.mir_func.specs.declared.block.Block.{Block}
 use Rattle.mir_func.specs.declared.position.Pos.{Pos}
 use Rattle.mir_func.specs.Function.{Function}
 use Rattle.mir_func.specs.Sound.{AllItems, IsSound, HasForm}
-use Rattle.dce_rule.specs.Dead.{Places, Ends}
-use Rattle.dce_rule.specs.Wrong.{silenced_block, taken_out}
-use Rattle.dce_rule.proofs.Sound.{sound_taken}
-use Rattle.dce_analysis.specs.Judge.{AreJudged}
+use Rattle.dce_stale.specs.dce_rule.Dead.{Places, Ends}
+use Rattle.dce_stale.specs.dce_rule.Wrong.{silenced_block, taken_out}
+use Rattle.dce_stale.proofs.dce_rule.Sound.{sound_taken}
+use Rattle.dce_stale.specs.dce_analysis.Judge.{AreJudged}
 use Rattle.dce_stale.specs.Sets.{StaleSets, AreStaleSets, wrong_of, starts_of}
 use Rattle.dce_sweep.proofs.None.{some_dead, none_taken, was_taken}
 use Rattle.dce_sweep.proofs.round.sweep_dead.Goals as goal

@@ -1,7 +1,7 @@
 use Rattle.std.proofs.Common.{◌≡◌, refl, subst, sym}
 use Rattle.mir_func.specs.Function.{Function}
 use Rattle.mir_func.specs.Sound.{IsSound}
-use Rattle.fold_rule_proof.proofs.KillSound.{sound_killed}
+use Rattle.fold_proof.proofs.fold_rule_proof.KillSound.{sound_killed}
 use Rattle.fold_pass.proofs.Folding.{with_all_kills}
 use Rattle.fold_pass.proofs.fold.fold.Goals as goal
 

@@ -1,6 +1,6 @@
 use Rattle.std.proofs.Common.{◌≡◌, ◌<◌, ℕ, List, length, set, subst, sym, ap, ◌∙◌}
 use Rattle.mir_func.specs.declared.block.Block.{Block}
-use Rattle.pass_trait.proofs.InPlaceMap.{map_turn}
+use Rattle.fold_rule_proof.proofs.pass_trait.InPlaceMap.{map_turn}
 use Rattle.fold_undef.specs.declared.kill.Kill.{Kill}
 use Rattle.fold_undef.specs.steps.Gathered.{kills_at, with_kills_of}
 use Rattle.fold_undef.proofs.put.put_all.Goals as goal

@@ -5,7 +5,7 @@ use Rattle.mir_func.specs.Sound.{AllItems, IsSound, HasForm}
 use Rattle.scan_allot.specs.Allotted.{AreAllotted}
 use Rattle.scan_allot.specs.Given.{given_by}
 use Rattle.scan_allot.proofs.Sound.{allotted_is_sound}
-use Rattle.spill_pass.proofs.Results.{same_blocks}
+use Rattle.scan_settle.proofs.spill_pass.Results.{same_blocks}
 use Rattle.linear_scan.proofs.allot.allot.Goals as goal
 
 pub allotted_blocks-requires-clause-few : goal.allotted_blocks-requires-clause-few

@@ -2,9 +2,9 @@ use Rattle.std.proofs.Common.{◌≡◌, List, ap, sym, ◌∙◌, subst, arith}
 use Rattle.mir_func.specs.declared.block.Block.{Block}
 use Rattle.mir_func.specs.Function.{Function}
 use Rattle.mir_func.specs.Sound.{AllItems, HasForm}
-use Rattle.scan_liveness.specs.Registers.{greatest_register}
+use Rattle.scan_allot.specs.scan_liveness.Registers.{greatest_register}
 use Rattle.scan_settle.specs.Rule.{AreLeft}
-use Rattle.spill_pass.proofs.Results.{same_blocks}
+use Rattle.scan_settle.proofs.spill_pass.Results.{same_blocks}
 use Rattle.linear_scan.proofs.Physical.{none_left}
 use Rattle.linear_scan.proofs.Scanned.{are_left}
 use Rattle.linear_scan.proofs.scan.intervals_left.Goals as goal

@@ -2,7 +2,7 @@ use Rattle.std.proofs.Common.{List, ◌∙◌, subst}
 use Rattle.mir_func.specs.declared.block.Block.{Block}
 use Rattle.mir_func.specs.Function.{Function}
 use Rattle.mir_func.specs.Sound.{AllItems, HasForm}
-use Rattle.spill_pass.proofs.Results.{same_blocks}
+use Rattle.scan_settle.proofs.spill_pass.Results.{same_blocks}
 use Rattle.linear_scan.proofs.Physical.{unchanged}
 use Rattle.linear_scan.proofs.scan.scan.Goals as goal
 

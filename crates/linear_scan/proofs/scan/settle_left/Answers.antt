@@ -1,8 +1,8 @@
 use Rattle.std.proofs.Common.{List, sym, subst}
-use Rattle.scan_intervals.specs.declared.interval.LiveInterval.{LiveInterval}
+use Rattle.scan_pass.specs.scan_intervals.declared.interval.LiveInterval.{LiveInterval}
 use Rattle.scan_settle.specs.Settled.{IsSettledWithLosses}
 use Rattle.scan_settle.specs.Rule.{AreLeft}
-use Rattle.spill_pass.proofs.Results.{if_ok}
+use Rattle.scan_settle.proofs.spill_pass.Results.{if_ok}
 use Rattle.linear_scan.proofs.Physical.{none_settled}
 use Rattle.linear_scan.proofs.scan.settle_left.Goals as goal
 

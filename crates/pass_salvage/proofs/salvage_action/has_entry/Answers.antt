@@ -3,7 +3,7 @@ use Rattle.mir_func.specs.declared.debug_substitution.OperandPair.{OperandPair}
 use Rattle.mir_func.specs.declared.debug_substitution.DebugSubstitution.{DebugSubstitution}
 use Rattle.std.proofs.Common.{List}
 use Rattle.mir_func.specs.Resolve.{is_pair, resolve}
-use Rattle.mir_substitution.proofs.Entries.{is_pair-true, is_pair-same}
+use Rattle.pass_trait.proofs.mir_substitution.Entries.{is_pair-true, is_pair-same}
 use Rattle.pass_salvage.specs.SalvageAction.{has_entry}
 use Rattle.pass_salvage.proofs.Found.{has_none, has_some}
 use Rattle.pass_salvage.proofs.salvage_action.has_entry.Goals as goal

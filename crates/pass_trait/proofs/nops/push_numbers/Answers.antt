@@ -1,7 +1,7 @@
 use Rattle.std.proofs.Common.{◌≡◌, ◌++◌, [], ℕ, Vec, Global, Option, append-nil, ap, sym, ◌∙◌}
 use Rattle.std.specs.List.{cons_option}
-use Rattle.mir_func.specs.declared.item.Item.{Item}
-use Rattle.mir_func.proofs.Filtered.{filter_map_turn}
+use Rattle.sem_simulation.specs.mir_func.declared.item.Item.{Item}
+use Rattle.sem_simulation.proofs.mir_func.Filtered.{filter_map_turn}
 use Rattle.pass_trait.specs.Nops.{nop_number}
 use Rattle.pass_trait.proofs.nops.push_numbers.Goals as goal
 use Rattle.pass_trait.proofs.nops.push_numbers.Goals.{in-Some+in_ok-push, in_default}

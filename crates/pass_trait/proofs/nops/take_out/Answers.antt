@@ -1,5 +1,5 @@
 use Rattle.std.proofs.Common.{◌≡◌, ◌<◌, List, length, set, subst, sym, ap, ◌∙◌, false}
-use Rattle.mir_func.specs.declared.block.Block.{Block}
+use Rattle.sem_simulation.specs.mir_func.declared.block.Block.{Block}
 use Rattle.pass_trait.specs.Nops.{thinned_block}
 use Rattle.pass_trait.proofs.InPlaceMap.{map_turn}
 use Rattle.pass_trait.proofs.nops.take_out.Goals as goal

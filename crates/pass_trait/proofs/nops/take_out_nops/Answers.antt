@@ -1,7 +1,7 @@
 use Rattle.std.proofs.Common.{◌≡◌, List, Bool, true, false, sym, ap, ◌∙◌, subst}
-use Rattle.mir_func.specs.declared.block.Block.{Block}
-use Rattle.mir_func.specs.Function.{Function}
-use Rattle.mir_func.specs.Sound.{IsSound}
+use Rattle.sem_simulation.specs.mir_func.declared.block.Block.{Block}
+use Rattle.sem_simulation.specs.mir_func.Function.{Function}
+use Rattle.sem_simulation.specs.mir_func.Sound.{IsSound}
 use Rattle.pass_trait.specs.Nops.{has_added_saves, thinned_blocks, thinned}
 use Rattle.pass_trait.proofs.NopFollows.{thins_none}
 use Rattle.pass_trait.proofs.NopSound.{sound_thin}

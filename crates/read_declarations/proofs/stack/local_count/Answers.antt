@@ -1,6 +1,6 @@
 use Rattle.std.proofs.Common.{◌≡◌, ◌+◌, ◌∷◌, List, drop, sym, ap, ◌∙◌, arith}
 use Rattle.std.proofs.lemmas.List.{drop_more, drop_all}
-use Rattle.mir_func.specs.Objects.{local_count}
+use Rattle.mir_substitution.specs.mir_func.Objects.{local_count}
 use Rattle.read_declarations.specs.declared.stack.StackEntry.{StackEntry}
 use Rattle.read_declarations.specs.Stack.{entry_offsets}
 use Rattle.read_declarations.proofs.stack.local_count.Goals as goal

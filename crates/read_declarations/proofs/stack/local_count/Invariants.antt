@@ -1,5 +1,5 @@
 use Rattle.std.proofs.Common.{◌≡◌, ◌≤◌, ◌+◌, drop}
-use Rattle.mir_func.specs.Objects.{local_count}
+use Rattle.mir_substitution.specs.mir_func.Objects.{local_count}
 use Rattle.read_declarations.specs.Stack.{entry_offsets}
 use Rattle.read_declarations.proofs.stack.local_count.Given as goal
 

@@ -1,4 +1,4 @@
-use Rattle.std.proofs.Common.{◌≡◌, ℕ, ◌+◌, List, [], ◌++◌, drop, Some, None, map, sym, ap, ◌∙◌}
+use Rattle.std.proofs.Common.{false, ◌≡◌, ℕ, ◌+◌, List, [], ◌++◌, drop, Some, None, map, sym, ap, ◌∙◌}
 use Rattle.read_lexer.specs.declared.line.Line.{Line}
 use Rattle.read_lexer.specs.declared.parts.Token.{Token}
 use Rattle.read_lexer.specs.Line.{tokens_of}
@@ -13,7 +13,7 @@ pub returns-in-Some : goal.returns-in-Some
 returns-in-Some c =
     let here = c.index-lines-at.result in
     let read : c.in_ok-read.read ≡ read_of here =
-    c.in_ok-read.ensures ∙ ap (λ (t : List ℕ). line_tokens_of t (tokens_of t)) (c.before_comment.ensures ∙ ap before_comment c.as_slice.ensures) in
+    c.in_ok-read.ensures ∙ ap (λ (t : List ℕ). line_tokens_of t (tokens_of false t)) (c.before_comment.ensures ∙ ap before_comment c.as_slice.ensures) in
     let fault : (read_of here).fault ≡ Some c.in-Some.kind = ap (λ (r : LineTokens). r.fault) (sym read) ∙ c.in-Some.is in
     let pushed : c.push_pieces.new.pieces ≡ c.loop-at.pieces ++ map (piece_of c.loop-at.at here.number) (read_of here).tokens =
     c.in_ok-push_pieces.ensures ∙ ap (λ (ts : List Token). c.loop-at.pieces ++ map (piece_of c.loop-at.at here.number) ts)
@@ -25,7 +25,7 @@ pub loop-at-preserved : goal.loop-at-preserved
 loop-at-preserved c =
     let here = c.index-lines-at.result in
     let read : c.in_ok-read.read ≡ read_of here =
-    c.in_ok-read.ensures ∙ ap (λ (t : List ℕ). line_tokens_of t (tokens_of t)) (c.before_comment.ensures ∙ ap before_comment c.as_slice.ensures) in
+    c.in_ok-read.ensures ∙ ap (λ (t : List ℕ). line_tokens_of t (tokens_of false t)) (c.before_comment.ensures ∙ ap before_comment c.as_slice.ensures) in
     let fault : (read_of here).fault ≡ None = ap (λ (r : LineTokens). r.fault) (sym read) ∙ c.in_default.is in
     let pushed : c.push_pieces.new.pieces ≡ c.loop-at.pieces ++ map (piece_of c.loop-at.at here.number) (read_of here).tokens =
     c.in_ok-push_pieces.ensures ∙ ap (λ (ts : List Token). c.loop-at.pieces ++ map (piece_of c.loop-at.at here.number) ts)

@@ -1,5 +1,5 @@
 use Rattle.std.proofs.Common.{ℕ, List, None, refl, rules}
-use Rattle.read_declarations.specs.declared.stack.StackEntry.{StackEntry}
+use Rattle.read_body.specs.read_declarations.declared.stack.StackEntry.{StackEntry}
 use Rattle.read_body.specs.FirstUseOrder.{met}
 use Rattle.read_body.proofs.Entries.{one_more, no_more}
 use Rattle.read_program.specs.Closing.{ids_behind, entry_ids}

@@ -2,4 +2,4 @@ use Rattle.std.proofs.Common.{refl}
 use Rattle.rv64_instr.proofs.decoded.calls_held.Goals as goal
 
 pub returns : goal.returns
-returns c = λ args outgoing. (_, refl, refl)
+returns c = (_, refl, refl)

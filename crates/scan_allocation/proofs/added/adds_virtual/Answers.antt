@@ -1,9 +1,9 @@
 use Rattle.std.proofs.Common.{◌&&◌, ap, ◌∙◌}
 use Rattle.mir_func.specs.Function.{Function}
 use Rattle.mir_func.specs.declared.item.Item.{Item}
-use Rattle.spill_rule.specs.Choice.{is_added}
-use Rattle.spill_rule.specs.steps.Any.{any_item}
-use Rattle.spill_rule.proofs.Flat.{any_flat}
+use Rattle.spill_select.specs.spill_rule.Choice.{is_added}
+use Rattle.spill_select.specs.spill_rule.steps.Any.{any_item}
+use Rattle.spill_select.proofs.spill_rule.Flat.{any_flat}
 use Rattle.scan_allocation.specs.Allocation.{names_virtual}
 use Rattle.scan_allocation.proofs.added.adds_virtual.Goals as goal
 

@@ -4,7 +4,7 @@ use Rattle.mir_func.specs.Function.{Function}
 use Rattle.mir_func.specs.Sound.{IsSound}
 use Rattle.pass_trait.specs.declared.loss.Loss.{Loss}
 use Rattle.pass_trait.specs.Order.{IsInOrder}
-use Rattle.scan_choice.specs.Given.{given_by}
+use Rattle.scan_stale.specs.scan_choice.Given.{given_by}
 use Rattle.scan_stale.specs.Sets.{starts_of}
 use Rattle.scan_stale.specs.Written.{AreReal}
 use Rattle.scan_allot.specs.Allotted.{AreAllotted}

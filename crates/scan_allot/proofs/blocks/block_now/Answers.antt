@@ -7,8 +7,8 @@ use Rattle.mir_func.specs.Function.{Function}
 use Rattle.mir_func.specs.Sound.{IsSound}
 use Rattle.pass_trait.specs.declared.loss.Loss.{Loss}
 use Rattle.pass_liveness.specs.Sets.{has}
-use Rattle.scan_choice.specs.Given.{given_by}
-use Rattle.scan_rule.specs.Rewrite.{items_now}
+use Rattle.scan_stale.specs.scan_choice.Given.{given_by}
+use Rattle.scan_debug.specs.scan_rule.Rewrite.{items_now}
 use Rattle.scan_stale.specs.Flow.{Places}
 use Rattle.scan_stale.specs.Sets.{start_in, starts_of}
 use Rattle.scan_allot.specs.Losses.{lost_items}

@@ -3,7 +3,7 @@ use Rattle.std.specs.Prelude.{slice_get}
 use Rattle.mir_func.specs.declared.block.Block.{Block}
 use Rattle.mir_func.specs.Function.{Function}
 use Rattle.pass_trait.specs.declared.loss.Loss.{Loss}
-use Rattle.scan_choice.specs.Given.{given_by}
+use Rattle.scan_stale.specs.scan_choice.Given.{given_by}
 use Rattle.scan_allot.proofs.Walked.{block_at, down_begins, down_goes_on, down_made, down_lost}
 use Rattle.scan_allot.proofs.blocks.blocks_now.Goals as goal
 

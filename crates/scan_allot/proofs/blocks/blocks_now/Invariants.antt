@@ -1,4 +1,4 @@
-use Rattle.scan_choice.specs.Given.{given_by}
+use Rattle.scan_stale.specs.scan_choice.Given.{given_by}
 use Rattle.scan_allot.proofs.Walked.{Down}
 use Rattle.scan_allot.proofs.blocks.blocks_now.Given as goal
 

@@ -4,8 +4,8 @@ use Rattle.rv64_instr.specs.declared.operand.Operand.{Operand}
 use Rattle.rv64_instr.specs.Form.{has_form}
 use Rattle.spill_code.specs.Rewrite.{renamed_operand}
 use Rattle.spill_code.proofs.Forms.{form_same}
-use Rattle.scan_allocation.specs.Coloring.{now}
-use Rattle.scan_choice.specs.Given.{given_by}
+use Rattle.scan_debug.specs.scan_allocation.Coloring.{now}
+use Rattle.scan_stale.specs.scan_choice.Given.{given_by}
 use Rattle.scan_allot.proofs.code.renamed_code.Goals as goal
 
 pub invariant_of-result : goal.invariant_of-result

@@ -1,7 +1,7 @@
 use Rattle.std.proofs.Common.{◌≡◌, map, take}
 use Rattle.spill_code.specs.Rewrite.{renamed_operand}
-use Rattle.scan_allocation.specs.Coloring.{now}
-use Rattle.scan_choice.specs.Given.{given_by}
+use Rattle.scan_debug.specs.scan_allocation.Coloring.{now}
+use Rattle.scan_stale.specs.scan_choice.Given.{given_by}
 use Rattle.scan_allot.proofs.code.renamed_operands.Given as goal
 
 abbrev pub invariant-loop-operand : goal.invariant-loop-operand

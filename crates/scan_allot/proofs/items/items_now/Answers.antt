@@ -1,8 +1,8 @@
 use Rattle.std.proofs.Common.{ℕ, List, ◌++◌, [], ◌∷◌, Option, ap, ◌∙◌, refl, arith}
 use Rattle.mir_func.specs.declared.item.Item.{Item}
 use Rattle.pass_liveness.specs.Sets.{has}
-use Rattle.scan_choice.specs.Given.{given_by}
-use Rattle.scan_rule.specs.Rewrite.{kind_now}
+use Rattle.scan_stale.specs.scan_choice.Given.{given_by}
+use Rattle.scan_debug.specs.scan_rule.Rewrite.{kind_now}
 use Rattle.scan_allot.specs.Silent.{is_silent}
 use Rattle.scan_allot.proofs.Walked.{along_begins, along_goes_on, along_made, along_lost}
 use Rattle.scan_allot.proofs.items.items_now.Goals as goal

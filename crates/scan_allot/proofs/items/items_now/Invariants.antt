@@ -1,5 +1,5 @@
 use Rattle.pass_liveness.specs.Sets.{has}
-use Rattle.scan_choice.specs.Given.{given_by}
+use Rattle.scan_stale.specs.scan_choice.Given.{given_by}
 use Rattle.scan_allot.proofs.Walked.{Along}
 use Rattle.scan_allot.proofs.items.items_now.Given as goal
 

@@ -1,12 +1,12 @@
 use Rattle.std.proofs.Common.{◌≡◌, ℕ, ◌≤◌, List, All, Option, Bool, sym, ap, ◌∙◌, subst}
-use Rattle.pass_trait.specs.Causes.{scratch_of}
-use Rattle.scan_intervals.specs.declared.interval.LiveInterval.{LiveInterval}
-use Rattle.scan_intervals.specs.Blocked.{AreBlocked}
-use Rattle.scan_intervals.specs.Intervals.{is_clear}
-use Rattle.scan_intervals.specs.Points.{CodePoint}
-use Rattle.scan_allocation.specs.declared.assignment.RegisterAssignment.{RegisterAssignment}
-use Rattle.scan_allocation.specs.Allocation.{stays, given_unless}
-use Rattle.scan_allocation.specs.Walk.{order_without, walk}
+use Rattle.scan_liveness.specs.pass_trait.Causes.{scratch_of}
+use Rattle.scan_liveness.specs.scan_intervals.declared.interval.LiveInterval.{LiveInterval}
+use Rattle.scan_liveness.specs.scan_intervals.Blocked.{AreBlocked}
+use Rattle.scan_liveness.specs.scan_intervals.Intervals.{is_clear}
+use Rattle.scan_liveness.specs.scan_intervals.Points.{CodePoint}
+use Rattle.scan_liveness.specs.scan_allocation.declared.assignment.RegisterAssignment.{RegisterAssignment}
+use Rattle.scan_liveness.specs.scan_allocation.Allocation.{stays, given_unless}
+use Rattle.scan_liveness.specs.scan_allocation.Walk.{order_without, walk}
 use Rattle.scan_choice.specs.Given.{given_by}
 use Rattle.scan_choice.proofs.Chosen.{all_virtual, chosen}
 use Rattle.scan_choice.proofs.choice.allocation_of.Goals as goal

@@ -1,6 +1,6 @@
 use Rattle.std.proofs.Common.{◌≡◌, ◌+◌, drop}
 use Rattle.std.specs.Prelude.{count_by}
-use Rattle.scan_allocation.specs.Allocation.{is_left}
+use Rattle.scan_liveness.specs.scan_allocation.Allocation.{is_left}
 use Rattle.scan_choice.proofs.choice.count_left.Given as goal
 
 abbrev pub invariant-loop-a : goal.invariant-loop-a

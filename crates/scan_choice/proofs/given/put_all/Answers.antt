@@ -1,5 +1,5 @@
 use Rattle.std.proofs.Common.{◌≤◌, ℕ}
-use Rattle.scan_allocation.specs.declared.assignment.RegisterAssignment.{RegisterAssignment}
+use Rattle.scan_liveness.specs.scan_allocation.declared.assignment.RegisterAssignment.{RegisterAssignment}
 use Rattle.scan_choice.proofs.Entered.{among, entered_begins, entered_goes_on}
 use Rattle.scan_choice.proofs.given.put_all.Goals as goal
 

@@ -1,5 +1,5 @@
 use Rattle.std.proofs.Common.{◌≡◌, ℕ, List, [], Option, Bool, refl, sym, ap, ◌∙◌}
-use Rattle.scan_allocation.specs.Allocation.{given_unless}
+use Rattle.scan_liveness.specs.scan_allocation.Allocation.{given_unless}
 use Rattle.scan_choice.proofs.Entered.{nothing_by}
 use Rattle.scan_choice.specs.Given.{given_by}
 use Rattle.scan_choice.proofs.given.table_of.Goals as goal

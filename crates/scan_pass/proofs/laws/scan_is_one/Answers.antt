@@ -1,4 +1,4 @@
-use Rattle.scan_pass.proofs.Scanned.{scan_is_one}
+use Rattle.scan_pass.proofs.CodeAlone.{scan_is_one}
 use Rattle.scan_pass.proofs.laws.scan_is_one.Goals as goal
 
 pub returns : goal.returns

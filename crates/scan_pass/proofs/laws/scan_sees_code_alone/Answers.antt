@@ -1,4 +1,4 @@
-use Rattle.scan_pass.proofs.Scanned.{scan_sees_code_alone}
+use Rattle.scan_pass.proofs.CodeAlone.{scan_sees_code_alone}
 use Rattle.scan_pass.proofs.laws.scan_sees_code_alone.Goals as goal
 
 pub returns : goal.returns

@@ -8,9 +8,9 @@ use Rattle.spill_code.specs.declared.spilling.SlotAssignment.{SlotAssignment}
 use Rattle.spill_code.specs.declared.spilling.Spilling.{Spilling}
 use Rattle.spill_code.specs.Rewrite.{spilled_blocks}
 use Rattle.spill_code.specs.Room.{HaveRoom}
-use Rattle.spill_debug.specs.RewrittenDebugItems.{number_beyond, blocks_asked}
-use Rattle.spill_debug.specs.Lost.{AreScratchLosses}
-use Rattle.spill_proof.specs.Whole.{spilled_by}
+use Rattle.spill_pass.specs.spill_debug.RewrittenDebugItems.{number_beyond, blocks_asked}
+use Rattle.spill_pass.specs.spill_debug.Lost.{AreScratchLosses}
+use Rattle.scan_slots.specs.spill_proof.Whole.{spilled_by}
 use Rattle.spill_pass.proofs.Made.{fresh_enough}
 use Rattle.spill_pass.proofs.Results.{not_empty, same_blocks, same_slots}
 use Rattle.scan_settle.specs.Settled.{IsSettledWithLosses}

@@ -2,7 +2,7 @@ use Rattle.std.proofs.Common.{◌≡◌, ◌||◌, ◌&&◌, ◌+◌, ◌≤◌,
 use Rattle.rv64_instr.specs.declared.place.Place.TheVariants.{Register}
 use Rattle.pass_liveness.specs.Sets.{has, is_place}
 use Rattle.pass_liveness.proofs.Places.{has_none, or_false}
-use Rattle.scan_allocation.specs.Coloring.{now}
+use Rattle.scan_choice.specs.scan_allocation.Coloring.{now}
 use Rattle.scan_choice.specs.Given.{given_by}
 use Rattle.scan_stale.specs.Shared.{is_sharing}
 use Rattle.scan_stale.proofs.Shared.{none_sharing}

@@ -4,7 +4,7 @@ use Rattle.rv64_instr.specs.declared.place.Place.TheVariants.{Register}
 use Rattle.rv64_instr.specs.DefsAndUses.{caller_saved}
 use Rattle.pass_liveness.specs.Sets.{has, is_place}
 use Rattle.pass_liveness.proofs.Places.{has_none, or_false}
-use Rattle.scan_allocation.specs.Coloring.{now}
+use Rattle.scan_choice.specs.scan_allocation.Coloring.{now}
 use Rattle.scan_choice.specs.Given.{given_by}
 use Rattle.scan_stale.specs.Flow.{takes_place, taken_by}
 use Rattle.scan_stale.proofs.Taken.{none_below, one_more, all_below, none_taken, saved_places}

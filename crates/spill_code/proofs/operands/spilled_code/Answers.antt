@@ -1,7 +1,7 @@
 use Rattle.std.proofs.Common.{List, map, subst, ap, sym, ◌∙◌}
 use Rattle.std.specs.Prelude.{IsTrue}
-use Rattle.rv64_instr.specs.declared.operand.Operand.{Operand}
-use Rattle.rv64_instr.specs.Form.{has_form}
+use Rattle.mir_func.specs.rv64_instr.declared.operand.Operand.{Operand}
+use Rattle.mir_func.specs.rv64_instr.Form.{has_form}
 use Rattle.spill_code.specs.Rewrite.{use_now, def_now, renamed_operand}
 use Rattle.spill_code.proofs.Forms.{form_same}
 use Rattle.spill_code.proofs.operands.spilled_code.Goals as goal

@@ -1,6 +1,6 @@
 use Rattle.std.proofs.Common.{rules}
 use Rattle.std.proofs.lemmas.Fn.{filter_same}
-use Rattle.spill_select.specs.Incoming.{is_among}
+use Rattle.spill_proof.specs.spill_select.Incoming.{is_among}
 use Rattle.spill_pass.proofs.reserve.keep_among.Goals as goal
 
 pub returns : goal.returns

@@ -2,16 +2,16 @@ use Rattle.std.proofs.Common.{◌≡◌, ℕ, ◌+◌, ◌<◌, ◌^◌, List, �
 use Rattle.mir_func.specs.declared.block.Block.{Block}
 use Rattle.mir_func.specs.Function.{Function}
 use Rattle.mir_func.specs.Sound.{AllItems, IsSound, HasForm}
-use Rattle.pass_trait.specs.declared.loss.Loss.{Loss}
-use Rattle.pass_trait.specs.Sizes.{greatest_number}
+use Rattle.spill_proof.specs.pass_trait.declared.loss.Loss.{Loss}
+use Rattle.spill_proof.specs.pass_trait.Sizes.{greatest_number}
 use Rattle.spill_code.specs.declared.spilling.SlotAssignment.{SlotAssignment}
 use Rattle.spill_code.specs.declared.spilling.Spilling.{Spilling}
 use Rattle.spill_code.specs.Rewrite.{spilled_blocks}
 use Rattle.spill_code.specs.Room.{HaveRoom}
-use Rattle.spill_debug.specs.RewrittenDebugItems.{number_beyond, blocks_asked}
-use Rattle.spill_debug.specs.Lost.{AreScratchLosses}
-use Rattle.spill_select.specs.Incoming.{is_among}
-use Rattle.spill_rule.specs.Choice.{entry_of}
+use Rattle.spill_proof.specs.spill_debug.RewrittenDebugItems.{number_beyond, blocks_asked}
+use Rattle.spill_proof.specs.spill_debug.Lost.{AreScratchLosses}
+use Rattle.spill_proof.specs.spill_select.Incoming.{is_among}
+use Rattle.spill_proof.specs.spill_rule.Choice.{entry_of}
 use Rattle.spill_proof.specs.Whole.{spilled_by}
 use Rattle.spill_proof.specs.Kept.{IsSpilledWithLosses}
 use Rattle.spill_pass.specs.declared.plan.SpillPlan.{SpillPlan}

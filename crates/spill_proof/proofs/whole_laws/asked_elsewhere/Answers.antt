@@ -1,4 +1,4 @@
-use Rattle.spill_rule.specs.Choice.{spilling_of}
+use Rattle.spill_select.specs.spill_rule.Choice.{spilling_of}
 use Rattle.spill_proof.proofs.Chosen.{no_scratch}
 use Rattle.spill_proof.proofs.Elsewhere.{asks_elsewhere}
 use Rattle.spill_proof.proofs.whole_laws.asked_elsewhere.Goals as goal

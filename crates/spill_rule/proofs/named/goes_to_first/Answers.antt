@@ -1,6 +1,6 @@
 use Rattle.std.proofs.Common.{ℕ, ap, sym, ◌∙◌}
 use Rattle.mir_func.specs.declared.item.Item.{Item}
-use Rattle.sem_mir.specs.InitialState.{first_of}
+use Rattle.pass_trait.specs.sem_mir.InitialState.{first_of}
 use Rattle.spill_rule.specs.Choice.{goes}
 use Rattle.spill_rule.specs.steps.Any.{any_item}
 use Rattle.spill_rule.proofs.named.goes_to_first.Goals as goal

@@ -2,7 +2,7 @@ use Rattle.std.proofs.Common.{List, ap, ◌∙◌}
 use Rattle.mir_func.specs.Function.{Function}
 use Rattle.mir_func.specs.declared.block.Block.{Block}
 use Rattle.mir_func.specs.declared.item.Item.{Item}
-use Rattle.sem_mir.specs.InitialState.{first_of}
+use Rattle.pass_trait.specs.sem_mir.InitialState.{first_of}
 use Rattle.spill_rule.specs.Choice.{goes}
 use Rattle.spill_rule.specs.steps.Any.{any_item}
 use Rattle.spill_rule.proofs.Flat.{any_flat}

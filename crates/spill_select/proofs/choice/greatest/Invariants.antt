@@ -1,5 +1,5 @@
 use Rattle.std.proofs.Common.{◌≡◌, max, drop}
-use Rattle.pass_trait.specs.Sizes.{greatest}
+use Rattle.spill_rule.specs.pass_trait.Sizes.{greatest}
 use Rattle.spill_select.proofs.choice.greatest.Given as goal
 
 abbrev pub invariant-loop-slot : goal.invariant-loop-slot

@@ -1,6 +1,6 @@
 use Rattle.std.proofs.Common.{◌&&◌, ℕ, filter, ◌∙◌, rules}
 use Rattle.std.proofs.lemmas.Fn.{filter_same}
-use Rattle.pass_trait.specs.Causes.{is_named}
+use Rattle.spill_rule.specs.pass_trait.Causes.{is_named}
 use Rattle.spill_rule.specs.Choice.{is_bound, is_free}
 use Rattle.spill_select.specs.Incoming.{is_among}
 use Rattle.spill_select.specs.Left.{first_reason}

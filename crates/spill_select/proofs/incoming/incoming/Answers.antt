@@ -1,10 +1,10 @@
 use Rattle.std.proofs.Common.{◌≡◌, ◌<◌, ◌↔◌, ℕ, List, Bool, true, false, None, slice_index, sym, subst}
 use Rattle.std.specs.Prelude.{filter}
-use Rattle.rv64_instr.specs.declared.place.Place.TheVariants.{Register}
-use Rattle.mir_func.specs.Function.{Function}
-use Rattle.mir_func.specs.Graph.{program_of, block_start}
-use Rattle.mir_func.specs.Sound.{ids_of, LastCloses}
-use Rattle.sem_mir.specs.Live.{Live}
+use Rattle.pass_liveness.specs.rv64_instr.declared.place.Place.TheVariants.{Register}
+use Rattle.pass_liveness.specs.mir_func.Function.{Function}
+use Rattle.pass_liveness.specs.mir_func.Graph.{program_of, block_start}
+use Rattle.pass_liveness.specs.mir_func.Sound.{ids_of, LastCloses}
+use Rattle.pass_liveness.specs.sem_mir.Live.{Live}
 use Rattle.pass_liveness.specs.Sets.{has}
 use Rattle.spill_rule.specs.Rule.{Decides}
 use Rattle.spill_select.specs.Incoming.{is_among}

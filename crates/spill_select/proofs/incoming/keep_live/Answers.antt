@@ -1,6 +1,6 @@
 use Rattle.std.proofs.Common.{rules}
 use Rattle.std.proofs.lemmas.Fn.{filter_same}
-use Rattle.rv64_instr.specs.declared.place.Place.TheVariants.{Register}
+use Rattle.pass_liveness.specs.rv64_instr.declared.place.Place.TheVariants.{Register}
 use Rattle.pass_liveness.specs.Sets.{has}
 use Rattle.spill_select.proofs.incoming.keep_live.Goals as goal
 

@@ -1,12 +1,12 @@
 use Rattle.std.proofs.Common.{◌≡◌, ◌++◌, ◌&&◌, ℕ, List, [], Option, None, cond, append-nil, sym, ap, ◌∙◌}
 use Rattle.std.specs.List.{cons_option}
-use Rattle.mir_func.proofs.Filtered.{filter_map_turn}
-use Rattle.mir_func.specs.Function.{Function}
-use Rattle.pass_trait.specs.declared.loss.Loss.{Loss}
-use Rattle.pass_trait.specs.declared.loss.Reason.{Reason}
-use Rattle.pass_trait.specs.Causes.{is_named}
-use Rattle.spill_code.specs.declared.spilling.SlotAssignment.{SlotAssignment}
-use Rattle.spill_code.specs.Rewrite.{slot_of}
+use Rattle.pass_liveness.proofs.mir_func.Filtered.{filter_map_turn}
+use Rattle.pass_liveness.specs.mir_func.Function.{Function}
+use Rattle.spill_rule.specs.pass_trait.declared.loss.Loss.{Loss}
+use Rattle.spill_rule.specs.pass_trait.declared.loss.Reason.{Reason}
+use Rattle.spill_rule.specs.pass_trait.Causes.{is_named}
+use Rattle.spill_rule.specs.spill_code.declared.spilling.SlotAssignment.{SlotAssignment}
+use Rattle.spill_rule.specs.spill_code.Rewrite.{slot_of}
 use Rattle.spill_rule.specs.Choice.{is_bound, homes_of}
 use Rattle.spill_select.specs.Incoming.{is_among}
 use Rattle.spill_select.specs.Left.{first_reason, or_no_slot, why_left, loss_for}

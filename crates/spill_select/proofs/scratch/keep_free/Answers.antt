@@ -1,6 +1,6 @@
 use Rattle.std.proofs.Common.{not, rules}
 use Rattle.std.proofs.lemmas.Fn.{filter_same}
-use Rattle.pass_trait.specs.Causes.{is_named}
+use Rattle.spill_rule.specs.pass_trait.Causes.{is_named}
 use Rattle.spill_select.proofs.scratch.keep_free.Goals as goal
 
 pub returns : goal.returns

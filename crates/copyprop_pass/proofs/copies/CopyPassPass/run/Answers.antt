@@ -6,8 +6,8 @@ use Rattle.pass_trait.specs.declared.loss.Loss.{Loss}
 use Rattle.pass_trait.specs.Steps.{KeepsSteps}
 use Rattle.pass_trait.specs.Simulation.{PreservesSimulation}
 use Rattle.pass_trait.specs.Sizes.{KeepsSizes}
-use Rattle.copyprop_rule.specs.Rule.{salvaged_function, salvaged_entries}
-use Rattle.copyprop_rule.proofs.Sizes.{sizes_copied}
+use Rattle.copyprop_proof.specs.copyprop_rule.Rule.{salvaged_function, salvaged_entries}
+use Rattle.copyprop_proof.proofs.copyprop_rule.Sizes.{sizes_copied}
 use Rattle.copyprop_proof.proofs.Follows.{copies_follow}
 use Rattle.copyprop_proof.specs.Rule.{copy_step}
 use Rattle.copyprop_proof.proofs.Kept.{copies_keep}

@@ -4,7 +4,7 @@ use Rattle.mir_func.specs.Function.{Function}
 use Rattle.pass_trait.specs.Change.{change}
 use Rattle.pass_trait.specs.Steps.{KeepsSteps}
 use Rattle.scan_pass.specs.Scanned.{scan_steps, IsScanned}
-use Rattle.spill_pass.proofs.Results.{if_ok}
+use Rattle.scan_settle.proofs.spill_pass.Results.{if_ok}
 use Rattle.linear_scan.proofs.scan.ScanPassPass.run.Goals as goal
 
 pub returns-clause-follows : goal.returns-clause-follows

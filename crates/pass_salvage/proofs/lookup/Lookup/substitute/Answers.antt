@@ -1,6 +1,6 @@
 use Rattle.std.proofs.Common.{Bool, [], ◌∷◌, ◌++◌, cond, sym, ap, ◌∙◌, subst}
 use Rattle.std.proofs.lemmas.Result.{on_ok_weaker}
-use Rattle.mir_substitution.specs.Added.{added}
+use Rattle.pass_trait.specs.mir_substitution.Added.{added}
 use Rattle.pass_salvage.specs.declared.lookup.Lookup.{Lookup}
 use Rattle.pass_salvage.specs.Salvage.{entry_for}
 use Rattle.pass_salvage.specs.Lookup.{IsLookupOf}

@@ -1,5 +1,5 @@
 use Rattle.std.proofs.Common.{◌≡◌, ◌↔◌, ℕ, List, Contains, [], ◌∷◌, false, true, sym, subst}
-use Rattle.mir_func.specs.Function.{Function}
+use Rattle.sem_simulation.specs.mir_func.Function.{Function}
 use Rattle.pass_trait.specs.Change.{change}
 use Rattle.pass_trait.specs.declared.loss.Reason.TheVariants.{Removed}
 use Rattle.pass_trait.specs.declared.loss.Loss.{Loss}

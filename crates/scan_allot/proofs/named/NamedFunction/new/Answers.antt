@@ -4,8 +4,8 @@ use Rattle.mir_func.specs.declared.item.Item.{Item}
 use Rattle.mir_func.specs.Function.{Function}
 use Rattle.pass_liveness.proofs.Places.{or_false}
 use Rattle.pass_trait.specs.Causes.{names}
-use Rattle.spill_rule.specs.steps.Any.{any_item}
-use Rattle.spill_rule.proofs.Flat.{any_flat}
+use Rattle.scan_debug.specs.spill_rule.steps.Any.{any_item}
+use Rattle.scan_debug.proofs.spill_rule.Flat.{any_flat}
 use Rattle.scan_allot.proofs.named.NamedFunction.new.Goals as goal
 
 pub invariant_of-result : goal.invariant_of-result

@@ -2,7 +2,7 @@ use Rattle.std.proofs.Common.{◌≡◌, ℕ, ◌<◌, ◌≤◌, List, [], ◌�
 use Rattle.rv64_instr.specs.declared.place.Place.TheVariants.{Register}
 use Rattle.pass_liveness.specs.Sets.{has, is_place}
 use Rattle.pass_liveness.proofs.Blocks.{get_or_any}
-use Rattle.scan_allocation.specs.Coloring.{now}
+use Rattle.scan_choice.specs.scan_allocation.Coloring.{now}
 use Rattle.scan_choice.specs.Given.{given_by}
 use Rattle.scan_stale.specs.Flow.{taken_by}
 use Rattle.scan_stale.specs.Shared.{is_sharing}

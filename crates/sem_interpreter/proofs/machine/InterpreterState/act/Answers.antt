@@ -53,8 +53,8 @@ pub returns-in-Jumps-clause-ok : goal.returns-in-Jumps-clause-ok
 returns-in-Jumps-clause-ok c = at_row (row_of c.args.i.now) _ (option_copied c.args.answer) _ _ _ c.in-Jumps.ensures.row (jumps_so c.args.self.now _ _)
 
 pub returns-in-Calls-clause-ok : goal.returns-in-Calls-clause-ok
-returns-in-Calls-clause-ok c = let e = c.in-Calls.ensures.row in at_call_ok c.args.i.now c.as_slice.result.now e.0
-    (option_copied c.args.answer) _ _ (c.as_slice.ensures ∙ ap (λ (x : Instruction). x.operands) c.i.view_is) e.1 c.call.result c.call.ensures.ok
+returns-in-Calls-clause-ok c = let e = c.in-Calls.ensures.row in at_call_ok c.args.i.now c.in-Calls.callee c.as_slice.result.now e.0
+    (option_copied c.args.answer) _ _ (c.as_slice.ensures ∙ ap (λ (x : Instruction). x.operands) c.i.view_is) e.1 e.2 c.call.result c.call.ensures.ok
 
 pub returns-in-Returns-clause-ok : goal.returns-in-Returns-clause-ok
 returns-in-Returns-clause-ok c = let e = c.in-Returns.ensures.row in at_return c.args.i.now c.as_slice-in-Returns.result.now e.0

@@ -1,8 +1,8 @@
 use Rattle.std.proofs.Common.{◌≡◌, ℕ, List, [], ◌∷◌, sym, ap, ◌∙◌, subst}
 use Rattle.mir_func.specs.declared.debug_substitution.DebugSubstitution.{DebugSubstitution}
 use Rattle.mir_func.specs.Function.{Function}
-use Rattle.pass_trait.specs.Change.{change}
-use Rattle.pass_trait.specs.Steps.{KeepsSteps}
+use Rattle.spill_proof.specs.pass_trait.Change.{change}
+use Rattle.spill_proof.specs.pass_trait.Steps.{KeepsSteps}
 use Rattle.spill_proof.specs.Step.{spill_step}
 use Rattle.spill_proof.specs.Kept.{IsReserve, IsSpilledWithLosses}
 use Rattle.spill_pass.specs.Reserve.{reserve_of}

@@ -1,6 +1,6 @@
 use Rattle.std.proofs.Common.{◌≡◌, ◌≤◌, drop}
 use Rattle.read_metadata.specs.Number.{value_behind}
-use Rattle.read_declarations.proofs.constant_value.is_small.Given as goal
+use Rattle.read_declarations.proofs.constant_value.small_value.Given as goal
 
 abbrev pub invariant-loop-byte : goal.invariant-loop-byte
 invariant-loop-byte l = record {

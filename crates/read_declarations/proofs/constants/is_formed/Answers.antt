@@ -4,7 +4,7 @@ use Rattle.std.specs.List.{list_all}
 use Rattle.std.proofs.lemmas.Bool.{and_parts}
 use Rattle.read_declarations.specs.Constants.{some_key, goes_on}
 use Rattle.read_declarations.proofs.Once.{all_formed}
-use Rattle.read_declarations.proofs.constants.is_entry.Goals as goal
+use Rattle.read_declarations.proofs.constants.is_formed.Goals as goal
 
 pub are_once-requires : goal.are_once-requires
 are_once-requires c =

@@ -1,6 +1,6 @@
 use Rattle.std.proofs.Common.{◌∙◌}
 use Rattle.read_declarations.proofs.PoolEntries.{digit_more, digits_above, digits_within}
-use Rattle.read_declarations.proofs.constant_value.is_small.Goals as goal
+use Rattle.read_declarations.proofs.constant_value.small_value.Goals as goal
 
 pub loop-byte-preserved : goal.loop-byte-preserved
 loop-byte-preserved c =

@@ -1,0 +1,7 @@
+mod Behind
+mod Changed
+mod Sound
+mod Sizes
+mod Stripping
+mod Debug
+mod Follows
