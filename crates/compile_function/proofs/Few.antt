@@ -32,7 +32,7 @@ use Rattle.frame_rule.specs.Rule.{added, added_all, prologue, epilogue, renamed,
 use Rattle.frame_rule.specs.Rule.{framed_items, framed_block, prologue_block, framed_blocks, framed_of}
 use Rattle.frame_rule.proofs.Rows.{renamed_row, row_renamed}
 use Rattle.pass_trait.specs.Sizes.{call_count}
-use Rattle.read_body.specs.Limits.{MAX_ITEMS}
+use Rattle.compile_passes.specs.read_body.Limits.{MAX_ITEMS}
 use Rattle.compile_passes.specs.Passed.{MAX_PASSED}
 
 -- ---- the words of a row

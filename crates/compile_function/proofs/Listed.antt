@@ -2,8 +2,8 @@
 -- promises.
 use Rattle.std.proofs.Common.{◌≡◌, ℕ, suc, ◌+◌, ◌≤◌, List, [], ◌∷◌, ◌++◌, length, Bool, true, false, cond, refl, ap, arith, length-append}
 use Rattle.std.specs.List.{flat_map, list_any}
-use Rattle.listing_text.specs.declared.output.ListedVariable.{ListedVariable}
-use Rattle.listing_function.specs.Variables.{variables_listed}
+use Rattle.dwarf_sections.specs.listing_text.declared.output.ListedVariable.{ListedVariable}
+use Rattle.compile_passes.specs.listing_function.Variables.{variables_listed}
 use Rattle.read_metadata.specs.Maps.{Maps}
 use Rattle.mir_func.specs.declared.block.Block.{Block}
 use Rattle.mir_func.specs.declared.item.Item.{Item}
@@ -12,10 +12,10 @@ use Rattle.mir_func.specs.declared.item.ItemKind.TheVariants.{Code, Mark, Phi}
 use Rattle.mir_func.specs.declared.variable.VarId.{VarId}
 use Rattle.mir_func.specs.Sound.{items_of}
 use Rattle.mir_func.specs.Variables.{is_same_variable}
-use Rattle.compile_theorem.specs.OutputProperties.{variable_lines, variable_listed}
+use Rattle.compile_passes.specs.compile_theorem.OutputProperties.{variable_lines, variable_listed}
 use Rattle.compile_function.specs.Emitted.{names_of}
-use Rattle.dwarf_line_table.specs.Files.{first_uses, with_new}
-use Rattle.dwarf_unit.specs.Variables.{marked, marks_of, variables_of_function}
+use Rattle.dwarf_sections.specs.dwarf_line_table.Files.{first_uses, with_new}
+use Rattle.dwarf_sections.specs.dwarf_unit.Variables.{marked, marks_of, variables_of_function}
 
 -- ---- how many there are
 

@@ -7,7 +7,7 @@ use Rattle.mir_func.specs.Graph.{Program, block_start}
 use Rattle.emit_code.specs.declared.code.EncodedInstruction.{EncodedInstruction}
 use Rattle.dwarf_loclists.specs.declared.range.Range.{Range}
 use Rattle.dwarf_loclists.specs.Ranges.{ArePlaces}
-use Rattle.location_ranges.specs.Lists.{AreListsOf}
+use Rattle.compile_passes.specs.location_ranges.Lists.{AreListsOf}
 
 pub all_each : {X Y : Type 0} (P : Y → Type 0) (xs : List X) (ys : List Y) → length ys ≡ length xs →
     ((k : ℕ) (x : X) (y : Y) → slice_get xs k ≡ Some x → slice_get ys k ≡ Some y → P y) → All P ys

@@ -5,31 +5,31 @@ use Rattle.std.specs.Int.{w32, to_le_bytes}
 use Rattle.emit_code.specs.Counts.{MAX_WORDS, MAX_BASE, count_of}
 use Rattle.emit_code.specs.declared.code.EncodedInstruction.{EncodedInstruction}
 use Rattle.emit_code.specs.Rule.{Layout, entries_of}
-use Rattle.listing_text.specs.declared.output.ListedFunction.{ListedFunction}
+use Rattle.dwarf_sections.specs.listing_text.declared.output.ListedFunction.{ListedFunction}
 use Rattle.pass_trait.specs.declared.loss.Loss.{Loss}
 use Rattle.frame_rule.specs.Rule.{framed_of}
 use Rattle.compile_function.specs.declared.compiled_function.CompiledFunction.{CompiledFunction}
-use Rattle.listing_function.specs.Laid.{IsLaid}
-use Rattle.listing_function.specs.Variables.{variables_listed}
+use Rattle.compile_passes.specs.listing_function.Laid.{IsLaid}
+use Rattle.compile_passes.specs.listing_function.Variables.{variables_listed}
 use Rattle.read_metadata.specs.Maps.{Maps}
-use Rattle.read_body.specs.Limits.{MAX_ITEMS}
+use Rattle.compile_passes.specs.read_body.Limits.{MAX_ITEMS}
 use Rattle.mir_func.specs.declared.variable.VarId.{VarId}
 use Rattle.mir_func.specs.Function.{FramedFunction}
 use Rattle.mir_func.specs.Graph.{block_start, framed_program}
 use Rattle.mir_func.specs.Resolve.{resolve}
-use Rattle.read_program.specs.declared.closing.Parsed.{Parsed}
-use Rattle.compile_theorem.specs.Compiled.{IsLayoutOf}
-use Rattle.compile_theorem.specs.OutputProperties.{variable_lines}
-use Rattle.compile_theorem.specs.Source.{SourceFunction, PassedFunction}
+use Rattle.compile_passes.specs.read_program.declared.closing.Parsed.{Parsed}
+use Rattle.compile_passes.specs.compile_theorem.Compiled.{IsLayoutOf}
+use Rattle.compile_passes.specs.compile_theorem.OutputProperties.{variable_lines}
+use Rattle.compile_passes.specs.compile_theorem.Source.{SourceFunction, PassedFunction}
 use Rattle.compile_function.proofs.Listed.{variables_few, lines_same}
 use Rattle.compile_function.proofs.Located.{places}
 use Rattle.compile_function.specs.declared.emit.EmittedFunctions.{EmittedFunctions}
 use Rattle.compile_function.specs.Emitted.{names_of, IsOneCompiled, IsPushed}
 use Rattle.compile_passes.specs.Passed.{source_of}
-use Rattle.read_proof.specs.Read.{IsReadFunction}
-use Rattle.listing_meaning.specs.Listing.{listing_of}
-use Rattle.location_ranges.specs.Lists.{AreListsOf}
-use Rattle.dwarf_unit.specs.Variables.{variables_of_function}
+use Rattle.compile_passes.specs.read_proof.Read.{IsReadFunction}
+use Rattle.compile_passes.specs.listing_meaning.Listing.{listing_of}
+use Rattle.compile_passes.specs.location_ranges.Lists.{AreListsOf}
+use Rattle.dwarf_sections.specs.dwarf_unit.Variables.{variables_of_function}
 
 -- it has as many variables as its source has items or fewer
 pub few_variables : (meta : Maps) (q : Parsed) (p : PassedFunction) (losses : List Loss) (base : ℕ) (c : CompiledFunction) → p.source ≡ source_of q →

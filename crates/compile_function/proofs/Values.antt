@@ -5,13 +5,13 @@ use Rattle.mir_func.specs.declared.variable.VarId.{VarId}
 use Rattle.mir_func.specs.Function.{FramedFunction}
 use Rattle.mir_func.specs.Graph.{framed_program}
 use Rattle.mir_func.specs.Resolve.{resolve}
-use Rattle.value_solver.specs.declared.tracked.Tracked.{Tracked}
-use Rattle.value_solver.specs.declared.entry.BlockEntry.{BlockEntry}
-use Rattle.value_solver.specs.Entry.{thing, IsEntry}
-use Rattle.value_proof.specs.PreferredByClass.{AreEnoughFor}
-use Rattle.value_tracker.specs.Things.{AreThings}
-use Rattle.location_ranges.specs.declared.values.Values.{Values}
-use Rattle.location_ranges.specs.Stands.{AreValuesOf}
+use Rattle.value_live_ins.specs.value_solver.declared.tracked.Tracked.{Tracked}
+use Rattle.value_live_ins.specs.value_solver.declared.entry.BlockEntry.{BlockEntry}
+use Rattle.value_live_ins.specs.value_solver.Entry.{thing, IsEntry}
+use Rattle.value_live_ins.specs.value_proof.PreferredByClass.{AreEnoughFor}
+use Rattle.value_live_ins.specs.value_tracker.Things.{AreThings}
+use Rattle.compile_passes.specs.location_ranges.declared.values.Values.{Values}
+use Rattle.compile_passes.specs.location_ranges.Stands.{AreValuesOf}
 
 pub are_values : (f g : FramedFunction) (v : Values) (parts : List VarId) (things : List Tracked) (entries : List BlockEntry) → f ≡ g →
     v.variables.now ≡ parts → v.things.now ≡ things → v.entries.now ≡ entries → AreThings parts things →

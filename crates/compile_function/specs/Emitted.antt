@@ -5,24 +5,24 @@ use Rattle.std.specs.Int.{w32, to_le_bytes}
 use Rattle.emit_code.specs.Counts.{MAX_WORDS, count_of}
 use Rattle.emit_code.specs.Laid.{IsCodeOf}
 use Rattle.emit_code.specs.Rule.{words_of}
-use Rattle.listing_text.specs.declared.output.ListedFunction.{ListedFunction}
+use Rattle.dwarf_sections.specs.listing_text.declared.output.ListedFunction.{ListedFunction}
 use Rattle.dwarf_loclists.specs.declared.range.Range.{Range}
 use Rattle.dwarf_loclists.specs.Ranges.{Ascend, ArePlaces}
 use Rattle.pass_trait.specs.declared.loss.Loss.{Loss}
 use Rattle.frame_rule.specs.Rule.{framed_of, reach_of}
 use Rattle.compile_function.specs.declared.compiled_function.CompiledFunction.{CompiledFunction}
 use Rattle.compile_function.specs.declared.emit.EmittedFunctions.{EmittedFunctions}
-use Rattle.listing_function.specs.Variables.{name_of}
+use Rattle.compile_passes.specs.listing_function.Variables.{name_of}
 use Rattle.read_metadata.specs.Maps.{Maps}
 use Rattle.read_metadata.specs.Metadata.{variable_at}
-use Rattle.read_body.specs.Limits.{MAX_ITEMS}
+use Rattle.compile_passes.specs.read_body.Limits.{MAX_ITEMS}
 use Rattle.mir_func.specs.Graph.{block_start, framed_program}
 use Rattle.mir_func.specs.Limits.{MAX_FRAME}
 use Rattle.mir_func.specs.Resolve.{resolve}
-use Rattle.compile_theorem.specs.Compiled.{IsCompiledFunction}
-use Rattle.compile_theorem.specs.Source.{PassedFunction}
-use Rattle.location_ranges.specs.Lists.{AreListsOf}
-use Rattle.dwarf_unit.specs.Variables.{variables_of_function}
+use Rattle.compile_passes.specs.compile_theorem.Compiled.{IsCompiledFunction}
+use Rattle.compile_passes.specs.compile_theorem.Source.{PassedFunction}
+use Rattle.compile_passes.specs.location_ranges.Lists.{AreListsOf}
+use Rattle.dwarf_sections.specs.dwarf_unit.Variables.{variables_of_function}
 
 -- the name of the variable that a metadata node describes
 abbrev pub names_of : Maps → (node : ℕ) → List ℕ

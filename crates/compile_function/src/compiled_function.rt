@@ -10,13 +10,13 @@ ghost use Rattle.frame_rule.specs.Rule.{reach_of, framed_of};
 ghost use Rattle.emit_code.specs.Counts.{MAX_WORDS, MAX_BASE, count_of};
 ghost use Rattle.emit_code.specs.Laid.{IsCodeOf};
 ghost use Rattle.dwarf_loclists.specs.Ranges.{Ascend};
-ghost use Rattle.location_ranges.specs.Lists.{AreListsOf};
-ghost use Rattle.dwarf_unit.specs.Variables.{variables_of_function};
+ghost use Rattle.compile_passes.specs.location_ranges.Lists.{AreListsOf};
+ghost use Rattle.dwarf_sections.specs.dwarf_unit.Variables.{variables_of_function};
 
 use crate::location_lists::location_lists;
 use base_list::List;
 use dwarf_loclists::range::RangeLists;
-use dwarf_unit::variables::{VarIds, variables};
+use dwarf_sections::dwarf_unit_crate::variables::{VarIds, variables};
 use emit_code::code::Code;
 use emit_function::code::{CodeError, code_of};
 use mir_func::func::Func;

@@ -7,29 +7,29 @@ ghost use Rattle.emit_code.specs.Counts.{MAX_WORDS, MAX_BASE};
 ghost use Rattle.emit_code.specs.Rule.{Layout};
 ghost use Rattle.frame_rule.specs.Rule.{reach_of};
 ghost use Rattle.compile_function.specs.Emitted.{IsOneCompiled, IsPushed};
-ghost use Rattle.listing_function.specs.Laid.{IsLaid};
-ghost use Rattle.listing_function.specs.Variables.{variables_listed};
+ghost use Rattle.compile_passes.specs.listing_function.Laid.{IsLaid};
+ghost use Rattle.compile_passes.specs.listing_function.Variables.{variables_listed};
 ghost use Rattle.compile_passes.specs.Passed.{MAX_PASSED, passed_of};
-ghost use Rattle.read_body.specs.Limits.{MAX_ITEMS};
+ghost use Rattle.compile_passes.specs.read_body.Limits.{MAX_ITEMS};
 ghost use Rattle.mir_func.specs.Limits.{MAX_FRAME};
 ghost use Rattle.mir_func.specs.Sound.{AllItems, IsSound, items_of};
 ghost use Rattle.mir_func.specs.SoundFrame.{HasPhysical};
 ghost use Rattle.pass_trait.specs.Sizes.{call_count};
-ghost use Rattle.read_proof.specs.Read.{IsReadFunction};
-ghost use Rattle.listing_meaning.specs.Listing.{listing_of};
+ghost use Rattle.compile_passes.specs.read_proof.Read.{IsReadFunction};
+ghost use Rattle.compile_passes.specs.listing_meaning.Listing.{listing_of};
 
 use crate::compiled_function::{CompiledFunction, CompiledFunctions, compile_function};
 use crate::error::CompileError;
 use base_list::List;
+use compile_passes::listing_function_crate::listing::listing;
+use compile_passes::listing_function_crate::variables::variable_lines;
+use compile_passes::read_program_crate::closing::Parsed;
+use dwarf_sections::listing_text_crate::output::{Bytes, ListedFunction, ListedFunctions};
 use emit_function::code::CodeError;
-use listing_function::listing::listing;
-use listing_function::variables::variable_lines;
-use listing_text::output::{Bytes, ListedFunction, ListedFunctions};
 use mir_func::func::Func;
 use mir_substitution::substitutions::Substitutions;
 use pass_trait::loss::Losses;
 use read_metadata::metadata::Metadata;
-use read_program::closing::Parsed;
 use std::alloc::{AllocError, Global};
 
 /// The compiled functions of a program so far.

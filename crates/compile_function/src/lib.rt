@@ -10,6 +10,12 @@
 //! - `error`: Why functions have no output.
 #![tactic(auto)]
 
+pub use compile_passes::read_program_crate as read_program_crate;
+pub use dwarf_sections as dwarf_sections_crate;
+pub use dwarf_sections::{
+    dwarf_line_table_crate as dwarf_line_table_crate, dwarf_unit_crate as dwarf_unit_crate,
+};
+
 pub mod compiled_function;
 pub mod emit;
 pub mod error;

@@ -18,8 +18,8 @@ pub fn all_lists(alloc: Global, functions: &[CompiledFunction]) -> Result<RangeL
     Ok(lists)
 }
 
-/// Appends copies of location lists.
-fn push_copies(alloc: Global, lists: &mut RangeLists, more: &[Ranges]) -> Result<(), AllocError>
+/// Appends copies of location lists. The error is out of memory.
+pub fn push_copies(alloc: Global, lists: &mut RangeLists, more: &[Ranges]) -> Result<(), AllocError>
     ensures { OnOk result (lists.new ≡ lists.old ++ more.now) }
 {
     for ranges in more {

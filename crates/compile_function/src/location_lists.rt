@@ -4,12 +4,12 @@ ghost use Rattle.std.specs.Prelude.{◌≡◌, All, IfOk};
 ghost use Rattle.mir_func.specs.Graph.{block_start, framed_program};
 ghost use Rattle.mir_func.specs.Resolve.{resolve};
 ghost use Rattle.dwarf_loclists.specs.Ranges.{Ascend};
-ghost use Rattle.location_ranges.specs.Lists.{AreListsOf};
+ghost use Rattle.compile_passes.specs.location_ranges.Lists.{AreListsOf};
 
+use compile_passes::location_ranges_crate::ranges::all_ranges;
+use compile_passes::location_ranges_crate::values::Values;
 use dwarf_loclists::range::RangeLists;
 use emit_code::code::Code;
-use location_ranges::ranges::all_ranges;
-use location_ranges::values::Values;
 use mir_func::framed::Framed;
 use mir_func::variable::VarId;
 use mir_substitution::substitutions::Substitutions;
@@ -37,7 +37,7 @@ pub fn location_lists(
         sweeps: _,
     } = solve_for_lists(alloc, framed_of(code), subs)?;
     let values = Values {
-        variables: parts.as_slice(),
+        variables: &parts,
         things: things.as_slice(),
         entries: entries.as_slice(),
         subs,

@@ -10,24 +10,24 @@ use Rattle.dwarf_base.specs.Limits.{SECTION_LIMIT}
 use Rattle.dwarf_info.specs.Kinds.{abbreviation, abbreviations, inlined_abbreviations}
 use Rattle.dwarf_loclists.specs.declared.range.Range.{Range}
 use Rattle.frame_rule.proofs.Framed.{is_framed}
-use Rattle.listing_function.specs.Printable.{IsPrintableFramed}
-use Rattle.listing_function.proofs.Printed.{printable as listing_printable}
-use Rattle.listing_proof.specs.Laws.{inlined_in}
-use Rattle.listing_proof.proofs.Framed.{bodies_are_printable}
+use Rattle.compile_program.specs.listing_function.Printable.{IsPrintableFramed}
+use Rattle.compile_program.proofs.listing_function.Printed.{printable as listing_printable}
+use Rattle.compile_program.specs.listing_proof.Laws.{inlined_in}
+use Rattle.compile_program.proofs.listing_proof.Framed.{bodies_are_printable}
 use Rattle.read_metadata.specs.Maps.{Maps}
 use Rattle.read_body.specs.Limits.{MAX_ITEMS}
 use Rattle.mir_func.specs.Sound.{items_of}
 use Rattle.mir_func.specs.SoundFrame.{IsFramed}
 use Rattle.read_program.specs.declared.closing.Parsed.{Parsed}
 use Rattle.mir_printer.specs.Printable.{IsNumber}
-use Rattle.compile_theorem.specs.Compiled.{bytes_of, IsCompiledFunction, AreCompiled}
-use Rattle.compile_theorem.specs.OutputProperties.{variable_lines}
-use Rattle.compile_theorem.proofs.Functions.{words_length}
-use Rattle.compile_theorem.specs.Source.{SourceFunction, PassedFunction}
+use Rattle.compile_program.specs.compile_theorem.Compiled.{bytes_of, IsCompiledFunction, AreCompiled}
+use Rattle.compile_program.specs.compile_theorem.OutputProperties.{variable_lines}
+use Rattle.compile_program.proofs.compile_theorem.Functions.{words_length}
+use Rattle.compile_program.specs.compile_theorem.Source.{SourceFunction, PassedFunction}
 use Rattle.compile_program.specs.Program.{ArePassed, source_of, IsCompilable, names_of, Describe}
 use Rattle.dwarf_line_table.specs.declared.source_and_code.SourceAndCode.{SourceAndCode}
-use Rattle.read_proof.specs.Read.{LocationsAreLimited, IsReadFunction}
-use Rattle.dwarf_unit.specs.Variables.{variables_of_function}
+use Rattle.compile_program.specs.read_proof.Read.{LocationsAreLimited, IsReadFunction}
+use Rattle.compile_program.specs.dwarf_unit.Variables.{variables_of_function}
 use Rattle.compile_output_proof.specs.Laws.{OutputsArePrintable}
 use Rattle.compile_output_proof.proofs.Variables.{few_variables, variables_printable}
 

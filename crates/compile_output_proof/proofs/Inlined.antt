@@ -13,23 +13,23 @@ use Rattle.dwarf_line_table.specs.declared.source_and_code.SourceAndCode.{Source
 use Rattle.dwarf_rnglists.proofs.OneReading.{one_section}
 use Rattle.dwarf_rnglists.specs.Ranges.{Cover}
 use Rattle.dwarf_rnglists.specs.declared.range.AddressRange.{AddressRange}
-use Rattle.dwarf_sections.specs.Inlined.{HaveInstances, AreInlinedSections, range_lists}
+use Rattle.compile_program.specs.dwarf_sections.Inlined.{HaveInstances, AreInlinedSections, range_lists}
 use Rattle.emit_code.specs.declared.code.EncodedInstruction.{EncodedInstruction}
 use Rattle.inline_instances.specs.Calls.{AreCallsFrom, call_at}
 use Rattle.inline_instances.specs.Laws.{IsInlinedThrough}
 use Rattle.inline_instances.proofs.Members.{get_left}
 use Rattle.inline_instances.proofs.Ways.{none_is_some, some_is_some}
-use Rattle.inline_subroutines.specs.declared.subroutine.InlinedSubroutine.{InlinedSubroutine}
-use Rattle.inline_subroutines.specs.Subroutines.{AreSubroutines}
-use Rattle.inline_subroutines.proofs.Made.{of_subroutines}
+use Rattle.compile_program.specs.inline_subroutines.declared.subroutine.InlinedSubroutine.{InlinedSubroutine}
+use Rattle.compile_program.specs.inline_subroutines.Subroutines.{AreSubroutines}
+use Rattle.compile_program.proofs.inline_subroutines.Made.{of_subroutines}
 use Rattle.mir_func.specs.Function.{Function}
 use Rattle.mir_func.specs.Positions.{position_of}
 use Rattle.mir_func.specs.declared.position.Origin.{Origin}
 use Rattle.read_item.specs.Debug.{inlined_at}
 use Rattle.read_metadata.specs.Maps.{Maps}
 use Rattle.read_program.specs.declared.program.Program.{Program}
-use Rattle.compile_theorem.specs.Compiled.{IsCompiledProgram}
-use Rattle.compile_theorem.specs.Source.{PassedFunction}
+use Rattle.compile_program.specs.compile_theorem.Compiled.{IsCompiledProgram}
+use Rattle.compile_program.specs.compile_theorem.Source.{PassedFunction}
 use Rattle.compile_program.specs.Program.{ArePassed, HasSections, Describe, names_of}
 use Rattle.compile_program.proofs.Passed.{passed_at}
 use Rattle.compile_output_proof.specs.Lines.{origin_of}

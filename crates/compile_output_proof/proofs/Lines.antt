@@ -26,11 +26,11 @@ use Rattle.mir_func.specs.Sound.{AllItems}
 use Rattle.mir_func.specs.Positions.{position_of}
 use Rattle.read_program.specs.declared.closing.Parsed.{Parsed}
 use Rattle.read_program.specs.declared.program.Program.{Program}
-use Rattle.compile_theorem.specs.Compiled.{bytes_of, IsCompiledFunction, AreCompiled}
-use Rattle.compile_theorem.specs.OutputProperties.{variable_lines}
-use Rattle.compile_theorem.proofs.Framing.{forms_framed}
-use Rattle.compile_theorem.proofs.Functions.{words_length}
-use Rattle.compile_theorem.specs.Source.{SourceFunction, PassedFunction}
+use Rattle.compile_program.specs.compile_theorem.Compiled.{bytes_of, IsCompiledFunction, AreCompiled}
+use Rattle.compile_program.specs.compile_theorem.OutputProperties.{variable_lines}
+use Rattle.compile_program.proofs.compile_theorem.Framing.{forms_framed}
+use Rattle.compile_program.proofs.compile_theorem.Functions.{words_length}
+use Rattle.compile_program.specs.compile_theorem.Source.{SourceFunction, PassedFunction}
 use Rattle.compile_program.proofs.Passed.{passed_functions, passed_at}
 use Rattle.compile_program.specs.Program.{ArePassed, AreCoded, HaveCode, Describe, source_of, IsCompilable, names_of}
 use Rattle.dwarf_line_table.specs.declared.source_and_code.SourceAndCode.{SourceAndCode}
@@ -41,8 +41,8 @@ use Rattle.dwarf_line_table.specs.Program.{program_file, files_with, function_en
 use Rattle.dwarf_line_table.proofs.SourceTables.{no_further}
 use Rattle.dwarf_line.specs.Spelling.{spelling as rows_spelling}
 use Rattle.read_metadata.specs.Maps.{Maps}
-use Rattle.dwarf_unit.specs.Inlined.{call_scopes}
-use Rattle.dwarf_unit.specs.Variables.{variables_of_function}
+use Rattle.compile_program.specs.dwarf_unit.Inlined.{call_scopes}
+use Rattle.compile_program.specs.dwarf_unit.Variables.{variables_of_function}
 use Rattle.compile_output_proof.specs.Lines.{origin_of, HasByte, file_of, TellsLinesOf, OutputsTellLines}
 use Rattle.compile_output_proof.proofs.Listed.{listing_entered}
 
@@ -222,7 +222,7 @@ module _ (p : Program) (ps : List PassedFunction) (passed : ArePassed p.meta p.f
     entered a line has =
         let found = listing_entered a pair.function.layout
         (variable_lines (names_of p.meta) pair.first (variables_of_function made.source.function.blocks)) made.substitutions forms line
-        (subst (λ (x : ListedFunction). Contains (Rattle.listing_meaning.specs.Program.lines_of x) line) pair.function.listed has.stands) has.first has.begins
+        (subst (λ (x : ListedFunction). Contains (Rattle.compile_program.specs.listing_meaning.Program.lines_of x) line) pair.function.listed has.stands) has.first has.begins
         has.from has.within in (
           found.0,
           record {

@@ -30,12 +30,12 @@ use Rattle.listing_text.specs.declared.output.Line.{Line}
 use Rattle.listing_text.specs.declared.output.Line.TheVariants.{Skip}
 use Rattle.listing_text.specs.declared.output.ListedBlock.{ListedBlock}
 use Rattle.listing_text.specs.declared.output.ListedVariable.{ListedVariable}
-use Rattle.listing_meaning.specs.Program.{address_of, past_line, lines_of}
-use Rattle.listing_meaning.specs.Listing.{implicits, branch_skip, line_at, form_lines, kind_lines, site_lines, items_listed, blocks_listed}
-use Rattle.listing_meaning.specs.Listing.{prologue_listed, body_listed}
-use Rattle.listing_meaning.specs.Listing.{listing_of}
-use Rattle.listing_meaning.proofs.Forms.{FormView, one, call, long, viewed}
-use Rattle.listing_meaning.proofs.Sizes.{is_call_form, calls_listed, past_word, past_call}
+use Rattle.compile_program.specs.listing_meaning.Program.{address_of, past_line, lines_of}
+use Rattle.compile_program.specs.listing_meaning.Listing.{implicits, branch_skip, line_at, form_lines, kind_lines, site_lines, items_listed, blocks_listed}
+use Rattle.compile_program.specs.listing_meaning.Listing.{prologue_listed, body_listed}
+use Rattle.compile_program.specs.listing_meaning.Listing.{listing_of}
+use Rattle.compile_program.proofs.listing_meaning.Forms.{FormView, one, call, long, viewed}
+use Rattle.compile_program.proofs.listing_meaning.Sizes.{is_call_form, calls_listed, past_word, past_call}
 use Rattle.dwarf_line_table.proofs.Members.{no_member, head_member, later_member, member_cases}
 use Rattle.compile_output_proof.specs.Lines.{origin_of}
 

@@ -21,10 +21,10 @@ use Rattle.base_ids.specs.Limits.{MAX_NUMBER}
 use Rattle.read_program.specs.Limited.{KindIsLimited, LocIsLimited}
 use Rattle.mir_printer.specs.Printable.{Declared, IsNumber, IsPrintable, IsPrintableKind, inlined_at}
 use Rattle.listing_text.specs.Shown.{IsPrintableVariable}
-use Rattle.compile_theorem.specs.OutputProperties.{variable_listed, variable_lines}
-use Rattle.read_proof.specs.Read.{declared_in, LocationsAreLimited, IsReadFunction}
+use Rattle.compile_program.specs.compile_theorem.OutputProperties.{variable_listed, variable_lines}
+use Rattle.compile_program.specs.read_proof.Read.{declared_in, LocationsAreLimited, IsReadFunction}
 use Rattle.dwarf_line_table.specs.Files.{with_new, first_uses}
-use Rattle.dwarf_unit.specs.Variables.{whole, marked, marks_of, variables_of_function}
+use Rattle.compile_program.specs.dwarf_unit.Variables.{whole, marked, marks_of, variables_of_function}
 use Rattle.read_item.specs.Debug.{inlined_at_node}
 
 -- ---- first uses

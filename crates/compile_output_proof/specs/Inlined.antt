@@ -11,15 +11,15 @@ use Rattle.read_item.specs.Debug.{inlined_at}
 use Rattle.read_metadata.specs.Maps.{Maps}
 use Rattle.read_program.specs.declared.closing.Parsed.{Parsed}
 use Rattle.read_program.specs.declared.program.Program.{Program}
-use Rattle.compile_theorem.specs.Compiled.{IsCompiledProgram}
-use Rattle.compile_theorem.specs.Source.{PassedFunction}
+use Rattle.compile_program.specs.compile_theorem.Compiled.{IsCompiledProgram}
+use Rattle.compile_program.specs.compile_theorem.Source.{PassedFunction}
 use Rattle.compile_program.specs.Program.{ArePassed, HaveCode, HasSections, names_of}
 use Rattle.dwarf_line_table.specs.SourcePosition.{loc_of}
 use Rattle.dwarf_line_table.specs.declared.source_and_code.SourceAndCode.{SourceAndCode}
-use Rattle.dwarf_unit.specs.Inlined.{inlined_unit_of}
-use Rattle.dwarf_sections.specs.Inlined.{HaveInstances}
+use Rattle.compile_program.specs.dwarf_unit.Inlined.{inlined_unit_of}
+use Rattle.compile_program.specs.dwarf_sections.Inlined.{HaveInstances}
 use Rattle.inline_instances.specs.Calls.{AreCallsFrom, call_at}
-use Rattle.inline_subroutines.specs.declared.subroutine.InlinedSubroutine.{InlinedSubroutine}
+use Rattle.compile_program.specs.inline_subroutines.declared.subroutine.InlinedSubroutine.{InlinedSubroutine}
 use Rattle.compile_output_proof.specs.Lines.{origin_of, HasByte}
 
 -- The calls through which a listed line was inlined, as numbers of nodes: a call is among them. The line's debug location is that of the first code at or

@@ -2,12 +2,12 @@
 use Rattle.std.specs.Prelude.{List}
 use Rattle.listing_text.specs.declared.output.Output.{Output}
 use Rattle.listing_text.specs.Shown.{IsPrintableOutput}
-use Rattle.listing_proof.specs.Laws.{inlined_in}
+use Rattle.compile_program.specs.listing_proof.Laws.{inlined_in}
 use Rattle.read_program.specs.declared.program.Program.{Program}
-use Rattle.compile_theorem.specs.Compiled.{IsCompiledProgram}
-use Rattle.compile_theorem.specs.Source.{PassedFunction}
+use Rattle.compile_program.specs.compile_theorem.Compiled.{IsCompiledProgram}
+use Rattle.compile_program.specs.compile_theorem.Source.{PassedFunction}
 use Rattle.compile_program.specs.Program.{ArePassed, HasSections, names_of}
-use Rattle.read_proof.specs.Read.{IsReadProgram}
+use Rattle.compile_program.specs.read_proof.Read.{IsReadProgram}
 
 -- An output that is compiled of passed functions of a program that was read, with its sections, is printable: its numbers and addresses have 32 bits,
 -- and its items are printable.

@@ -13,10 +13,10 @@ use Rattle.mir_func.specs.declared.position.Origin.{Origin}
 use Rattle.mir_func.specs.Positions.{position_of}
 use Rattle.read_program.specs.declared.closing.Parsed.{Parsed}
 use Rattle.read_program.specs.declared.program.Program.{Program}
-use Rattle.compile_theorem.specs.Compiled.{IsCompiledProgram}
-use Rattle.compile_theorem.specs.Source.{PassedFunction}
+use Rattle.compile_program.specs.compile_theorem.Compiled.{IsCompiledProgram}
+use Rattle.compile_program.specs.compile_theorem.Source.{PassedFunction}
 use Rattle.compile_program.specs.Program.{ArePassed, HasSections, names_of}
-use Rattle.listing_meaning.specs.Program.{lines_of, address_of, past_line}
+use Rattle.compile_program.specs.listing_meaning.Program.{lines_of, address_of, past_line}
 use Rattle.dwarf_line_table.specs.declared.file.SourceFile.{SourceFile}
 use Rattle.dwarf_line_table.specs.Files.{unit_file}
 use Rattle.dwarf_line_table.specs.SourcePosition.{no_line, scope_line, loc_of, line_of}

@@ -3,7 +3,7 @@
 use Rattle.std.proofs.Common.{◌≡◌, ◌⊎◌, inl, inr, ℕ, ◌+◌, ◌*◌, ◌<◌, ◌≤◌, ◌^◌, List, [], ◌∷◌, length, refl, ap, ◌∙◌, subst, arith}
 use Rattle.std.specs.Prelude.{Contains, IsTrue, true, false}
 use Rattle.std.proofs.lemmas.List.Elements.{Contains-append_left, Contains-append_right}
-use Rattle.read_body.specs.Limits.{MAX_ITEMS}
+use Rattle.listing_proof.specs.read_body.Limits.{MAX_ITEMS}
 use Rattle.mir_func.specs.Limits.{MAX_SLOTS}
 use Rattle.base_ids.specs.Limits.{MAX_NUMBER}
 use Rattle.pass_trait.specs.Sizes.{most}

@@ -1,6 +1,7 @@
 -- What linear scan and passes make of a function that was read can be compiled: it follows its source, its listing is printable, and it has few items. And
 -- they may run on such a function: its numbers and slots are low.
 use Rattle.std.proofs.Common.{◌≡◌, inl, inr, ℕ, ◌+◌, ◌*◌, ◌<◌, ◌≤◌, ◌^◌, List, [], ◌∷◌, ◌++◌, length, Option, Some, None, refl, sym, subst, arith}
+use Rattle.std.proofs.Common.{ap, ◌∙◌, append_assoc}
 use Rattle.std.specs.Prelude.{All, Contains, IfSome}
 use Rattle.std.specs.List.{flat_map}
 use Rattle.std.proofs.Math.Nat.{le_trans}
@@ -10,7 +11,7 @@ use Rattle.std.proofs.lemmas.List.Elements.{Contains-append_left, Contains-appen
 use Rattle.rv64_instr.specs.declared.place.Place.{Place}
 use Rattle.rv64_instr.specs.declared.place.Place.TheVariants.{Register, Slot, Const}
 use Rattle.read_metadata.specs.Maps.{Maps}
-use Rattle.read_body.specs.Limits.{MAX_ITEMS}
+use Rattle.listing_proof.specs.read_body.Limits.{MAX_ITEMS}
 use Rattle.mir_func.specs.declared.block.Block.{Block}
 use Rattle.mir_func.specs.declared.debug_substitution.DebugSubstitution.{DebugSubstitution}
 use Rattle.mir_func.specs.declared.item.Item.{Item}
@@ -28,33 +29,31 @@ use Rattle.base_ids.specs.Limits.{MAX_NUMBER}
 use Rattle.mir_func.specs.Resolve.{resolve}
 use Rattle.mir_func.specs.Sound.{AllItems, items_of, IsSound, HasForm}
 use Rattle.sem_mir.proofs.Reading.{follows_itself, whole_ends_of_itself}
-use Rattle.read_program.specs.declared.closing.Parsed.{Parsed}
-use Rattle.read_program.specs.Limited.{KindIsLimited, LocIsLimited}
-use Rattle.mir_printer.specs.Printable.{IsNumber, IsPrintablePlace, IsPrintableLoc, IsPrintableVariable}
+use Rattle.listing_proof.specs.read_program.declared.closing.Parsed.{Parsed}
+use Rattle.listing_proof.specs.read_program.Limited.{KindIsLimited, LocIsLimited}
+use Rattle.listing_proof.specs.mir_printer.Printable.{IsNumber, IsPrintablePlace, IsPrintableLoc, IsPrintableVariable}
 use Rattle.pass_trait.specs.Change.{change}
 use Rattle.pass_trait.specs.declared.loss.Loss.{Loss}
-use Rattle.pass_trait.proofs.Composition.{steps_then}
 use Rattle.pass_trait.specs.Simulation.{Source, SimulatesSource, EndsAsSource, PreservesSimulation}
 use Rattle.pass_trait.specs.Sizes.{greatest, numbers_of, greatest_number, most_numbers, item_count, call_count, IsPhysical}
-use Rattle.listing_text.specs.Shown.{declared_by, IsPrintableEntry}
-use Rattle.listing_function.specs.Printable.{IsPrintableFramedKind}
+use Rattle.listing_proof.specs.listing_text.Shown.{declared_by, IsPrintableEntry}
+use Rattle.listing_proof.specs.listing_function.Printable.{IsPrintableFramedKind}
 use Rattle.listing_proof.proofs.Framed.{read_bodies}
 use Rattle.listing_proof.specs.Laws.{inlined_in, IsPrintableBlock}
 use Rattle.compile_theorem.proofs.Variables.{own_marks}
 use Rattle.compile_theorem.specs.Source.{MarksOneOf, PassedFunction}
 use Rattle.pass_manager.proofs.Row.{told_steps, after_more, numbers_more, shown_then}
 use Rattle.pass_list.specs.declared.kind.PassKind.{PassKind}
-use Rattle.pass_manager.specs.Passes.{steps_of as steps_of_list, passes_of as passes_of_list}
+use Rattle.pass_manager.specs.Exposed.{left_exposed, KeepsExposed}
 use Rattle.pass_manager.specs.Passes.{any_asks, all_keep, Fit, numbers_after, slots_after, KeepsGrowth}
 use Rattle.pass_manager.specs.Shown.{HasMark, HasPhi, IsGiven, KeepsShown}
-use Rattle.pass_manager.specs.Told.{KeepsPasses}
 use Rattle.linear_scan.specs.Scanned.{scan_steps}
 use Rattle.compile_passes.proofs.Accepted.{MAX_SCANNED, scanned_items, IsAccepted}
 use Rattle.compile_passes.specs.steps.Scan.{IsScanOf}
 use Rattle.compile_passes.specs.Passed.{MAX_PASSED, steps_of, passes_of, IsMadeBy, IsMadeLosing, IsCompilable, passed_of}
-use Rattle.read_proof.specs.Read.{EntryIsLimited, IsReadFunction}
-use Rattle.mir_type_facts.specs.Typed.{IsTypedBlock, IsTypedItem, IsTypedKind, IsTypedPlace, IsTypedEntry}
-use Rattle.dwarf_unit.specs.Variables.{variables_of_function}
+use Rattle.listing_proof.specs.read_proof.Read.{EntryIsLimited, IsReadFunction}
+use Rattle.linear_scan.specs.mir_type_facts.Typed.{IsTypedBlock, IsTypedItem, IsTypedKind, IsTypedPlace, IsTypedEntry}
+use Rattle.compile_theorem.specs.dwarf_unit.Variables.{variables_of_function}
 
 -- ---- items
 
@@ -314,10 +313,14 @@ module _ (meta : Maps) (q : Parsed) (reserve : List ℕ) (passes : List PassKind
       let few : item_count q.func ≤ MAX_ITEMS = read.few_items in
       le_trans growth.calls (le_trans scan.sizes.calls (le_trans (count_by-le-length (λ (i : Item). is_call_kind i.kind) (items_of q.func.blocks)) few))
 
-  pub made_after : (later told : List Loss) → KeepsPasses (passes_of_list reserve passes) (change g gs f subs) later → told ≡ here ++ later →
+  pub made_after : (later told : List Loss) → KeepsExposed reserve passes q.exposure (change g gs f subs) later → told ≡ here ++ later →
       IsMadeLosing reserve passes (passed_of q f subs) told
   unfolding passes_of
-  made_after later told kept joined = (g, gs, here, later, scan.kept, kept, joined)
+  made_after later told behind joined = record {
+    of_steps = here ++ behind.of_steps;
+    kept = (g, gs, here, behind.of_steps, scan.kept, behind.kept, refl);
+    are = joined ∙ ap (λ (l : List Loss). here ++ l) behind.are ∙ sym (append_assoc here behind.of_steps (left_exposed reserve passes q.exposure f));
+  }
 
   pub compilable_after : IsPhysical g → IsSound f → (Fit passes → PreservesSimulation (any_asks passes) (all_keep passes) (change g gs f subs)) →
       KeepsGrowth passes (change g gs f subs) → KeepsShown g f → All IsTypedBlock f.blocks → All IsTypedEntry subs →
@@ -328,11 +331,8 @@ module _ (meta : Maps) (q : Parsed) (reserve : List ℕ) (passes : List PassKind
 -- so their steps made it
 pub made_by : (reserve : List ℕ) (passes : List PassKind) (p : PassedFunction) (told : List Loss) → IsMadeLosing reserve passes p told →
     IsMadeBy (steps_of reserve passes) p
-unfolding steps_of passes_of
-made_by reserve passes p told (g, gs, here, later, kept, rest, joined) =
-    let more = told_steps reserve passes (change g gs p.function p.substitutions) later rest in
-    record {
-      losses = kept.lost ++ more.0;
-      kept = steps_then (scan_steps reserve) (steps_of_list reserve passes) p.source.function p.source.substitutions g gs p.function p.substitutions
-          kept.lost more.0 kept.kept more.1;
-    }
+unfolding steps_of
+made_by reserve passes p told by =
+    let more = told_steps (passes_of reserve passes p.source.exposure)
+    (change p.source.function p.source.substitutions p.function p.substitutions) by.of_steps by.kept in
+    record { losses = more.0; kept = more.1 }

@@ -4,7 +4,7 @@ use Rattle.std.specs.Prelude.{All}
 use Rattle.std.proofs.lemmas.List.Elements.{All-nil}
 use Rattle.mir_func.specs.declared.debug_substitution.DebugSubstitution.{DebugSubstitution}
 use Rattle.mir_func.specs.Function.{Function}
-use Rattle.pass_losses.specs.Reported.{AreReported}
+use Rattle.linear_scan.specs.pass_losses.Reported.{AreReported}
 use Rattle.pass_trait.specs.Change.{change}
 use Rattle.pass_trait.specs.declared.loss.Loss.{Loss}
 use Rattle.pass_trait.specs.Simulation.{PreservesSimulation}
@@ -15,7 +15,7 @@ use Rattle.pass_manager.proofs.Shows.{Shows, EachShows, steps_shown}
 use Rattle.pass_manager.specs.Shown.{KeepsShown}
 use Rattle.linear_scan.proofs.Shown.{OnlyRenames, allot_only_renames, settle_only_renames}
 use Rattle.linear_scan.specs.Scanned.{scan_steps}
-use Rattle.read_program.specs.declared.closing.Parsed.{Parsed}
+use Rattle.listing_proof.specs.read_program.declared.closing.Parsed.{Parsed}
 use Rattle.compile_passes.specs.Passed.{IsMadeBy, GetsRegisters, LeavesVirtual, passed_of}
 use Rattle.compile_passes.specs.steps.Scan.{IsScanOf}
 
@@ -61,7 +61,7 @@ module _ (q : Parsed) (reserve : List ℕ) (f : Function) (subs : List DebugSubs
 -- ---- registers
 
 made_by_scan : (q : Parsed) (reserve : List ℕ) (f : Function) (subs : List DebugSubstitution) (told : List Loss) →
-    IsScanOf reserve (change q.func q.subs f subs) told → IsMadeBy (scan_steps reserve) (passed_of q f subs)
+    IsScanOf reserve (change q.func q.subs f subs) told → IsMadeBy (λ exposure. scan_steps reserve) (passed_of q f subs)
 made_by_scan q reserve f subs told scan = record { losses = scan.kept.lost; kept = scan.kept.kept }
 
 -- it has its registers

@@ -2,5 +2,10 @@
 //! printable listing.
 #![tactic(auto)]
 
+pub use compile_theorem::location_ranges_crate as location_ranges_crate;
+pub use listing_proof::{
+    listing_function_crate as listing_function_crate, read_program_crate as read_program_crate,
+};
+
 pub mod error;
 pub mod passed;

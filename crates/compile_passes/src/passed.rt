@@ -11,23 +11,23 @@ ghost use Rattle.pass_trait.specs.Change.{change};
 ghost use Rattle.pass_trait.specs.Simulation.{PreservesSimulation};
 ghost use Rattle.pass_trait.specs.Sizes.{IsPhysical, KeepsSizes, call_count, greatest, greatest_number, most_numbers};
 ghost use Rattle.pass_trait.specs.Steps.{KeepsSteps};
-ghost use Rattle.read_body.specs.Limits.{MAX_ITEMS};
-ghost use Rattle.read_proof.specs.Read.{IsReadFunction, EntryIsLimited};
+ghost use Rattle.listing_proof.specs.read_body.Limits.{MAX_ITEMS};
+ghost use Rattle.listing_proof.specs.read_proof.Read.{IsReadFunction, EntryIsLimited};
 ghost use Rattle.linear_scan.specs.Scanned.{scan_steps};
 
 use crate::error::PassesError;
-use frame_lowering::physical::is_physical;
+use linear_scan::frame_lowering_crate::physical::is_physical;
+use linear_scan::mir_type_facts_crate::typed::{blocks_are_typed, entries_are_typed};
+use linear_scan::pass_losses_crate::told::told;
 use linear_scan::scan::ScanPass;
+use listing_proof::read_program_crate::closing::Parsed;
 use mir_func::func::Func;
 use mir_substitution::substitutions::Substitutions;
-use mir_type_facts::typed::{blocks_are_typed, entries_are_typed};
 use pass_list::kind::PassKind;
-use pass_losses::told::told;
-use pass_manager::run::run_passes;
+use pass_manager::exposed::run_exposed;
 use pass_trait::loss::Losses;
 use pass_trait::pass::Pass;
 use read_metadata::metadata::Metadata;
-use read_program::closing::Parsed;
 use rv64_instr::reg::{Reg, Registers};
 use std::alloc::{AllocError, Global};
 
@@ -154,21 +154,21 @@ fn run_scan(
 fn passed_behind(
     alloc: Global,
     _meta: &Metadata,
-    _source: &Parsed,
+    source: &Parsed,
     allocated: Passed,
     passes: &[PassKind],
     reserve: &[Reg],
 ) -> Result<Passed, AllocError>
-    requires read { IsReadFunction _meta.now _source.now.func }
-    requires substitutions { All EntryIsLimited _source.now.subs }
+    requires read { IsReadFunction _meta.now source.now.func }
+    requires substitutions { All EntryIsLimited source.now.subs }
     requires distinct { AreDistinct passes.now }
     requires scanned { IsScanOf reserve.now
-        (change _source.now.func _source.now.subs allocated.function allocated.substitutions) allocated.losses }
+        (change source.now.func source.now.subs allocated.function allocated.substitutions) allocated.losses }
     requires physical { IsPhysical allocated.function }
     ensures compilable { IfOk result (λ p.
-        IsCompilable _meta.now (passed_of _source.now p.function p.substitutions)) }
+        IsCompilable _meta.now (passed_of source.now p.function p.substitutions)) }
     ensures made { IfOk result (λ p.
-        IsMadeLosing reserve.now passes.now (passed_of _source.now p.function p.substitutions) p.losses) }
+        IsMadeLosing reserve.now passes.now (passed_of source.now p.function p.substitutions) p.losses) }
     ensures few { IfOk result (λ p. length (items_of p.function.blocks) ≤ MAX_PASSED) }
     ensures calls { IfOk result (λ p. call_count p.function ≤ MAX_ITEMS) }
 {
@@ -177,7 +177,14 @@ fn passed_behind(
         mut substitutions,
         mut losses,
     } = allocated;
-    let later = run_passes(alloc, passes, reserve, &mut function, &mut substitutions)?;
+    let later = run_exposed(
+        alloc,
+        source.exposure,
+        passes,
+        reserve,
+        &mut function,
+        &mut substitutions,
+    )?;
     losses.extend_from_slice(later.as_slice())?;
     blocks_are_typed(function.blocks.as_slice());
     entries_are_typed(substitutions.entries());

@@ -7,16 +7,16 @@ use Rattle.std.specs.Int.{w32, to_le_bytes}
 use Rattle.std.proofs.lemmas.List.{flat_map_more}
 use Rattle.emit_code.specs.Counts.{MAX_WORDS}
 use Rattle.listing_text.specs.declared.output.ListedFunction.{ListedFunction}
-use Rattle.pass_trait.specs.declared.loss.Loss.{Loss}
+use Rattle.compile_function.specs.pass_trait.declared.loss.Loss.{Loss}
 use Rattle.compile_function.specs.declared.compiled_function.CompiledFunction.{CompiledFunction}
 use Rattle.compile_function.specs.declared.emit.EmittedFunctions.{EmittedFunctions}
 use Rattle.compile_function.specs.Emitted.{names_of, text_of, IsPushed}
 use Rattle.compile_function.specs.Passed.{source_of, IsMadeLosing, IsCompilable}
 use Rattle.read_metadata.specs.Maps.{Maps}
-use Rattle.read_body.specs.Limits.{MAX_ITEMS}
-use Rattle.read_program.specs.declared.closing.Parsed.{Parsed}
-use Rattle.compile_theorem.proofs.Functions.{words_length}
-use Rattle.compile_theorem.specs.Source.{PassedFunction}
+use Rattle.compile_function.specs.read_body.Limits.{MAX_ITEMS}
+use Rattle.compile_function.specs.read_program.declared.closing.Parsed.{Parsed}
+use Rattle.compile_function.proofs.compile_theorem.Functions.{words_length}
+use Rattle.compile_function.specs.compile_theorem.Source.{PassedFunction}
 use Rattle.pass_list.specs.declared.kind.PassKind.{PassKind}
 use Rattle.compile_program.proofs.Compiled.{ends}
 use Rattle.compile_program.specs.Program.{ArePassed, IsCompiledAs, AreCompiledAs}

@@ -18,21 +18,21 @@ use Rattle.compile_function.specs.Emitted.{names_of, text_of, lists_of, AreWrita
 use Rattle.compile_function.specs.Passed.{IsMadeBy, steps_of}
 use Rattle.compile_function.proofs.AfterPasses.{made_by}
 use Rattle.read_metadata.specs.Maps.{Maps}
-use Rattle.read_program.specs.declared.closing.Parsed.{Parsed}
-use Rattle.read_program.specs.declared.program.Program.{Program}
+use Rattle.compile_function.specs.read_program.declared.closing.Parsed.{Parsed}
+use Rattle.compile_function.specs.read_program.declared.program.Program.{Program}
 use Rattle.mir_func.specs.Function.{Function, FramedFunction}
-use Rattle.compile_theorem.proofs.LaidOut.{lines_length}
-use Rattle.compile_theorem.specs.Compiled.{AreCompiled, bytes_of}
-use Rattle.compile_theorem.specs.Source.{PassedFunction}
+use Rattle.compile_function.proofs.compile_theorem.LaidOut.{lines_length}
+use Rattle.compile_function.specs.compile_theorem.Compiled.{AreCompiled, bytes_of}
+use Rattle.compile_function.specs.compile_theorem.Source.{PassedFunction}
 use Rattle.pass_list.specs.declared.kind.PassKind.{PassKind}
 use Rattle.compile_program.specs.Program.{ArePassed, AreCoded, HaveCode, IsCompiledAs, AreCompiledAs, IsOutputOf, IsLarge, HasLargeSection}
 use Rattle.compile_program.specs.Program.{HasLargeFrameSection, HasLargeInlinedSection, Describe}
 use Rattle.compile_program.specs.steps.CompilationState.{AreMade}
 use Rattle.compile_program.proofs.Passed.{have_code}
-use Rattle.dwarf_line_table.specs.declared.source_and_code.SourceAndCode.{SourceAndCode}
-use Rattle.dwarf_sections.specs.Frame.{IsOfFunction, IsFrameSection, IsLargeFrameSection}
-use Rattle.dwarf_sections.specs.Inlined.{IsLargeInlined}
-use Rattle.dwarf_unit.specs.Variables.{variables_of_function}
+use Rattle.compile_function.specs.dwarf_line_table.declared.source_and_code.SourceAndCode.{SourceAndCode}
+use Rattle.compile_function.specs.dwarf_sections.Frame.{IsOfFunction, IsFrameSection, IsLargeFrameSection}
+use Rattle.compile_function.specs.dwarf_sections.Inlined.{IsLargeInlined}
+use Rattle.compile_function.specs.dwarf_unit.Variables.{variables_of_function}
 
 module _ (names : ℕ → List ℕ) (reserve : List ℕ) (passes : List PassKind) where
   -- ---- one function
@@ -124,7 +124,7 @@ module _ (names : ℕ → List ℕ) (reserve : List ℕ) (passes : List PassKind
 
 -- ---- the code of each function
 
-all_of_functions : (base : ℕ) (fs : List Function) (codes : List LaidCode) → AreCoded base fs codes → All IsOfFunction codes
+pub all_of_functions : (base : ℕ) (fs : List Function) (codes : List LaidCode) → AreCoded base fs codes → All IsOfFunction codes
 all_of_functions base [] [] coded = All-nil IsOfFunction
 all_of_functions base [] (c ∷ codes) coded = absurd coded
 all_of_functions base (f ∷ fs) [] coded = absurd coded
@@ -132,10 +132,10 @@ all_of_functions base (f ∷ fs) (c ∷ codes) (is, coded) =
     All-cons IsOfFunction c codes (base, subst (λ (g : FramedFunction). IsCodeOf g base c) (sym is.framed) is)
     (all_of_functions (base + 4 * length c.words) fs codes coded)
 
-abbrev code_in : SourceAndCode → LaidCode
+abbrev pub code_in : SourceAndCode → LaidCode
 code_in c = c.code.now
 
-of_each : (cs : List SourceAndCode) → All IsOfFunction (map code_in cs) → All (λ (c : SourceAndCode). IsOfFunction c.code.now) cs
+pub of_each : (cs : List SourceAndCode) → All IsOfFunction (map code_in cs) → All (λ (c : SourceAndCode). IsOfFunction c.code.now) cs
 of_each [] all = All-nil (λ (c : SourceAndCode). IsOfFunction c.code.now)
 of_each (c ∷ cs) all =
     All-cons (λ (x : SourceAndCode). IsOfFunction x.code.now) c cs (All-head IsOfFunction (code_in c) (map code_in cs) all)
@@ -144,7 +144,7 @@ of_each (c ∷ cs) all =
 -- ---- what was emitted of a program
 
 -- passes make as many functions as there are
-passed_length : (meta : Maps) (fs : List Parsed) (ps : List PassedFunction) → ArePassed meta fs ps → length ps ≡ length fs
+pub passed_length : (meta : Maps) (fs : List Parsed) (ps : List PassedFunction) → ArePassed meta fs ps → length ps ≡ length fs
 passed_length meta [] [] are = refl
 passed_length meta [] (p ∷ ps) are = absurd are
 passed_length meta (f ∷ fs) [] are = absurd are

@@ -1,8 +1,8 @@
 -- Sections that describe functions and are too large: plain ones, or those with inlined functions.
 use Rattle.std.proofs.Common.{◌≡◌, ℕ, ◌⊎◌, Bool, true, false, List, inl, inr, refl}
-use Rattle.dwarf_line_table.specs.declared.source_and_code.SourceAndCode.{SourceAndCode}
+use Rattle.compile_function.specs.dwarf_line_table.declared.source_and_code.SourceAndCode.{SourceAndCode}
 use Rattle.dwarf_loclists.specs.declared.range.Range.{Range}
-use Rattle.dwarf_sections.specs.Inlined.{IsLargeInlined}
+use Rattle.compile_function.specs.dwarf_sections.Inlined.{IsLargeInlined}
 use Rattle.read_metadata.specs.Maps.{Maps}
 use Rattle.compile_program.specs.Program.{IsLarge}
 use Rattle.compile_program.specs.steps.Described.{IsLargeDescription}

@@ -4,13 +4,13 @@ use Rattle.std.specs.Prelude.{All}
 use Rattle.std.proofs.lemmas.List.Elements.{All-head, All-tail}
 use Rattle.compile_function.proofs.Listed.{variables_few}
 use Rattle.read_metadata.specs.Maps.{Maps}
-use Rattle.read_body.specs.Limits.{MAX_ITEMS}
+use Rattle.compile_function.specs.read_body.Limits.{MAX_ITEMS}
 use Rattle.mir_func.specs.Function.{Function}
 use Rattle.mir_func.specs.Sound.{items_of}
-use Rattle.read_program.specs.declared.closing.Parsed.{Parsed}
-use Rattle.read_proof.specs.Read.{IsReadFunction}
-use Rattle.dwarf_line_table.specs.declared.source_and_code.SourceAndCode.{SourceAndCode}
-use Rattle.dwarf_unit.specs.Unit.{program_variables, function_variables}
+use Rattle.compile_function.specs.read_program.declared.closing.Parsed.{Parsed}
+use Rattle.compile_function.specs.read_proof.Read.{IsReadFunction}
+use Rattle.compile_function.specs.dwarf_line_table.declared.source_and_code.SourceAndCode.{SourceAndCode}
+use Rattle.compile_function.specs.dwarf_unit.Unit.{program_variables, function_variables}
 
 pub program_few : (meta : Maps) (compiled : List SourceAndCode) (functions : List Parsed) → map (λ c. c.source.now) compiled ≡ map (λ p. p.func) functions →
     All (λ (p : Parsed). IsReadFunction meta p.func) functions → length (program_variables compiled) ≤ length functions * MAX_ITEMS

@@ -3,21 +3,20 @@ use Rattle.std.proofs.Common.{◌≡◌, ◌∙◌, ℕ, zero, suc, ◌<◌, Lis
 use Rattle.std.specs.Prelude.{slice_get}
 use Rattle.std.proofs.lemmas.List.Elements.{All-nil, All-cons}
 use Rattle.emit_code.specs.Laid.{LaidCode}
-use Rattle.pass_trait.specs.declared.loss.Loss.{Loss}
-use Rattle.pass_trait.specs.Steps.{PassStep}
+use Rattle.compile_function.specs.pass_trait.declared.loss.Loss.{Loss}
 use Rattle.frame_rule.specs.Rule.{reach_of}
 use Rattle.mir_func.specs.declared.debug_substitution.DebugSubstitution.{DebugSubstitution}
 use Rattle.mir_func.specs.Function.{Function}
 use Rattle.mir_func.specs.Limits.{MAX_FRAME}
 use Rattle.pass_list.specs.declared.kind.PassKind.{PassKind}
 use Rattle.compile_function.proofs.AfterPasses.{made_by}
-use Rattle.compile_function.specs.Passed.{source_of, passed_of, steps_of, IsCompilable, IsMadeLosing}
+use Rattle.compile_function.specs.Passed.{ExposedSteps, source_of, passed_of, steps_of, IsCompilable, IsMadeLosing}
 use Rattle.read_metadata.specs.Maps.{Maps}
-use Rattle.read_program.specs.declared.closing.Parsed.{Parsed}
-use Rattle.compile_theorem.specs.Source.{SourceFunction, PassedFunction, IsPassedFunction, sources_among}
+use Rattle.compile_function.specs.read_program.declared.closing.Parsed.{Parsed}
+use Rattle.compile_function.specs.compile_theorem.Source.{SourceFunction, PassedFunction, IsPassedFunction, sources_among}
 use Rattle.compile_program.specs.Program.{sources_of, ArePassed, AreCoded, HaveCode, LeavesVirtual, HasVirtualRegister, HasLargeFrame}
 use Rattle.compile_program.specs.steps.CompilationState.{IsTooLarge}
-use Rattle.dwarf_line_table.specs.declared.source_and_code.SourceAndCode.{SourceAndCode}
+use Rattle.compile_function.specs.dwarf_line_table.declared.source_and_code.SourceAndCode.{SourceAndCode}
 
 -- ---- the sources of what passes made
 
@@ -54,7 +53,7 @@ made_too_large reserve passes q f subs losses meta by is large = record {
 }
 
 -- one of the functions has a frame above the limit
-pub one_too_large : (steps : List PassStep) (functions : List Parsed) (q : Parsed) → IsTooLarge steps q → Contains functions q → HasLargeFrame steps functions
+pub one_too_large : (steps : ExposedSteps) (functions : List Parsed) (q : Parsed) → IsTooLarge steps q → Contains functions q → HasLargeFrame steps functions
 one_too_large steps functions q is among = record {
   function = q;
   among = among;

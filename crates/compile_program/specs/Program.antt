@@ -11,29 +11,28 @@ use Rattle.dwarf_line.specs.Spelling.{spelling as rows_spelling}
 use Rattle.dwarf_loclists.specs.declared.range.Range.{Range}
 use Rattle.dwarf_loclists.specs.Grammar.{IsSection}
 use Rattle.dwarf_loclists.specs.Spelling.{spelling as lists_spelling}
-use Rattle.pass_trait.specs.Steps.{PassStep}
 use Rattle.frame_rule.specs.Rule.{reach_of, framed_of}
 pub use Rattle.compile_function.specs.Emitted.{names_of, text_of, lists_of, AreWritable}
 pub use Rattle.compile_function.specs.declared.compiled_function.CompiledFunction.{CompiledFunction}
 pub use Rattle.compile_function.specs.declared.error.CompileError.{CompileError}
 pub use Rattle.compile_function.specs.declared.error.CompileError.TheVariants.{NoRegister, FrameTooLarge, SectionTooLarge}
-pub use Rattle.compile_function.specs.Passed.{source_of, GetsRegisters, LeavesVirtual, IsMadeBy, IsMadeLosing, IsCompilable, steps_of, passes_of}
+pub use Rattle.compile_function.specs.Passed.{ExposedSteps, source_of, GetsRegisters, LeavesVirtual, IsMadeBy, IsMadeLosing, IsCompilable, steps_of, passes_of}
 use Rattle.read_metadata.specs.Maps.{Maps}
 use Rattle.mir_func.specs.Function.{Function}
 use Rattle.mir_func.specs.Limits.{MAX_FRAME}
-use Rattle.read_program.specs.declared.closing.Parsed.{Parsed}
-use Rattle.read_program.specs.declared.program.Program.{Program}
-pub use Rattle.compile_theorem.specs.Compiled.{AreCoded}
-use Rattle.compile_theorem.specs.Compiled.{IsCompiledFunction, AreCompiled, IsCompiledProgram}
-use Rattle.compile_theorem.specs.Source.{SourceFunction, PassedFunction, IsPassedFunction}
+use Rattle.compile_function.specs.read_program.declared.closing.Parsed.{Parsed}
+use Rattle.compile_function.specs.read_program.declared.program.Program.{Program}
+pub use Rattle.compile_function.specs.compile_theorem.Compiled.{AreCoded}
+use Rattle.compile_function.specs.compile_theorem.Compiled.{IsCompiledFunction, AreCompiled, IsCompiledProgram}
+use Rattle.compile_function.specs.compile_theorem.Source.{SourceFunction, PassedFunction, IsPassedFunction}
 use Rattle.pass_list.specs.declared.kind.PassKind.{PassKind}
 pub use Rattle.compile_program.specs.declared.compile.Compilation.{Compilation}
-use Rattle.dwarf_line_table.specs.declared.source_and_code.SourceAndCode.{SourceAndCode}
-use Rattle.dwarf_line_table.specs.Program.{table_of}
-use Rattle.dwarf_sections.specs.Frame.{IsFrameSection, IsLargeFrameSection}
-use Rattle.dwarf_sections.specs.Inlined.{AreInlinedSections, IsLargeInlined}
-use Rattle.dwarf_unit.specs.Unit.{unit_of}
-use Rattle.dwarf_unit.specs.Variables.{variables_of_function}
+use Rattle.compile_function.specs.dwarf_line_table.declared.source_and_code.SourceAndCode.{SourceAndCode}
+use Rattle.compile_function.specs.dwarf_line_table.Program.{table_of}
+use Rattle.compile_function.specs.dwarf_sections.Frame.{IsFrameSection, IsLargeFrameSection}
+use Rattle.compile_function.specs.dwarf_sections.Inlined.{AreInlinedSections, IsLargeInlined}
+use Rattle.compile_function.specs.dwarf_unit.Unit.{unit_of}
+use Rattle.compile_function.specs.dwarf_unit.Variables.{variables_of_function}
 
 -- ---- sources
 
@@ -109,7 +108,7 @@ pub record HasSections (meta : Maps) (functions : List PassedFunction) (o : Outp
 -- ---- outputs
 
 -- The output is compiled of what steps of passes made of the program's functions, with all its sections.
-pub record IsOutputOf (steps : List PassStep) (p : Program) (o : Output) : Type 0 where
+pub record IsOutputOf (steps : ExposedSteps) (p : Program) (o : Output) : Type 0 where
   pub functions : List PassedFunction
   pub passed : ArePassed p.meta p.functions functions
   pub made : All (IsMadeBy steps) functions
@@ -138,7 +137,7 @@ pub record HasVirtualRegister (reserve : List ℕ) (functions : List Parsed) : T
   pub virtual : LeavesVirtual reserve function
 
 -- Some function, after the steps of passes, refines its source, and has a frame above the limit.
-pub record HasLargeFrame (steps : List PassStep) (functions : List Parsed) : Type 0 where
+pub record HasLargeFrame (steps : ExposedSteps) (functions : List Parsed) : Type 0 where
   pub function : Parsed
   pub among : Contains functions function
   pub passed : PassedFunction
@@ -153,7 +152,7 @@ IsLarge meta text_len lists compiled = (SECTION_LIMIT ≤ length (lists_spelling
     ((SECTION_LIMIT ≤ length (entries_spelling (unit_of meta text_len compiled))) ⊎ (SECTION_LIMIT ≤ length (rows_spelling (table_of meta compiled))))
 
 -- A section of the program, compiled after the steps of passes, would be too large.
-pub record HasLargeSection (steps : List PassStep) (p : Program) : Type 0 where
+pub record HasLargeSection (steps : ExposedSteps) (p : Program) : Type 0 where
   pub functions : List PassedFunction
   pub passed : ArePassed p.meta p.functions functions
   pub made : All (IsMadeBy steps) functions
@@ -166,7 +165,7 @@ pub record HasLargeSection (steps : List PassStep) (p : Program) : Type 0 where
   pub large : IsLarge p.meta (length text) lists compiled
 
 -- The call frame information of the program, compiled after the steps of passes, would be too large.
-pub record HasLargeFrameSection (steps : List PassStep) (p : Program) : Type 0 where
+pub record HasLargeFrameSection (steps : ExposedSteps) (p : Program) : Type 0 where
   pub functions : List PassedFunction
   pub passed : ArePassed p.meta p.functions functions
   pub made : All (IsMadeBy steps) functions
@@ -175,7 +174,7 @@ pub record HasLargeFrameSection (steps : List PassStep) (p : Program) : Type 0 w
   pub large : IsLargeFrameSection [] (map (λ c. c.code.now) compiled)
 
 -- A section of the program with inlined functions, compiled after the steps of passes, would be too large.
-pub record HasLargeInlinedSection (steps : List PassStep) (p : Program) : Type 0 where
+pub record HasLargeInlinedSection (steps : ExposedSteps) (p : Program) : Type 0 where
   pub functions : List PassedFunction
   pub passed : ArePassed p.meta p.functions functions
   pub made : All (IsMadeBy steps) functions

@@ -8,27 +8,27 @@ ghost use Rattle.compile_program.specs.Program.{IsOutputOf, IsCompilationOf, Has
 ghost use Rattle.compile_program.specs.Program.{HaveRegisters, HasVirtualRegister, HasLargeFrameSection};
 ghost use Rattle.compile_program.specs.Program.{HasLargeInlinedSection};
 ghost use Rattle.compile_program.specs.steps.Described.{IsDescription, IsLargeDescription};
-ghost use Rattle.dwarf_line_table.specs.Program.{MAX_FUNCTIONS};
-ghost use Rattle.dwarf_unit.specs.Unit.{program_variables};
+ghost use Rattle.compile_function.specs.dwarf_line_table.Program.{MAX_FUNCTIONS};
+ghost use Rattle.compile_function.specs.dwarf_unit.Unit.{program_variables};
 ghost use Rattle.compile_program.specs.steps.CompilationState.{AreMade};
 ghost use Rattle.dwarf_base.specs.Limits.{SECTION_LIMIT};
-ghost use Rattle.dwarf_sections.specs.Frame.{IsOfFunction, IsFrameSection, IsLargeFrameSection};
-ghost use Rattle.read_proof.specs.Read.{IsReadProgram};
+ghost use Rattle.compile_function.specs.dwarf_sections.Frame.{IsOfFunction, IsFrameSection, IsLargeFrameSection};
+ghost use Rattle.compile_function.specs.read_proof.Read.{IsReadProgram};
 
 use crate::function::made_of;
 use compile_function::compiled_function::{CompiledFunction, CompiledFunctions};
+use compile_function::dwarf_line_table_crate::source_and_code::SourceAndCode;
+use compile_function::dwarf_sections_crate::inlined::{InlinedSections, inlined};
+use compile_function::dwarf_sections_crate::sections::{SectionError, frame, info, loclists, rows};
 use compile_function::emit::EmittedFunctions;
 use compile_function::error::CompileError;
 use compile_function::lists::all_lists;
+use compile_function::read_program_crate::closing::Parsed;
+use compile_function::read_program_crate::program::Program;
 use dwarf_info::abbreviation::{write_abbrev, write_inlined_abbrev};
-use dwarf_line_table::source_and_code::SourceAndCode;
-use dwarf_sections::inlined::{InlinedSections, inlined};
-use dwarf_sections::sections::{SectionError, frame, info, loclists, rows};
 use listing_text::output::{Bytes, Output};
 use pass_list::kind::PassKind;
 use read_metadata::metadata::Metadata;
-use read_program::closing::Parsed;
-use read_program::program::Program;
 use rv64_instr::reg::Reg;
 use std::alloc::{AllocError, Global};
 
@@ -288,7 +288,7 @@ fn frame_if(
 }
 
 /// Pairs functions with their machine code.
-fn with_code<'a>(
+pub fn with_code<'a>(
     alloc: Global,
     sources: &'a [Parsed],
     functions: &'a [CompiledFunction],

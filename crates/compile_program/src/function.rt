@@ -2,23 +2,23 @@
 
 ghost use Rattle.std.specs.Prelude.{◌+◌, ◌*◌, ◌%◌, ◌<◌, ◌≤◌, ◌^◌, ◌≡◌, All, IfOk, OnOk, IsErrOf, length};
 ghost use Rattle.emit_code.specs.Counts.{MAX_WORDS, MAX_BASE};
-ghost use Rattle.read_body.specs.Limits.{MAX_ITEMS};
-ghost use Rattle.read_program.specs.declared.closing.Parsed.{Parsed};
-ghost use Rattle.read_program.specs.Program.{MAX_FUNCTIONS};
+ghost use Rattle.compile_function.specs.read_body.Limits.{MAX_ITEMS};
+ghost use Rattle.compile_function.specs.read_program.declared.closing.Parsed.{Parsed};
+ghost use Rattle.compile_function.specs.read_program.Program.{MAX_FUNCTIONS};
 ghost use Rattle.pass_list.specs.Names.{AreDistinct};
 ghost use Rattle.compile_function.specs.Passed.{LeavesVirtual, steps_of};
 ghost use Rattle.compile_program.specs.Program.{HaveRegisters, HasVirtualRegister, HasLargeFrame};
 ghost use Rattle.compile_program.specs.steps.CompilationState.{IsSourcePushed, IsTooLarge, AreMade};
-ghost use Rattle.read_proof.specs.Read.{IsReadFunction, EntryIsLimited};
+ghost use Rattle.compile_function.specs.read_proof.Read.{IsReadFunction, EntryIsLimited};
 
 use compile_function::compiled_function::CompiledFunctions;
 use compile_function::emit::{EmittedFunctions, push_function};
 use compile_function::error::CompileError;
 use compile_function::passed::{after_passes, get_registers};
+use compile_function::read_program_crate::closing::Parsed;
 use listing_text::output::{Bytes, ListedFunctions};
 use pass_list::kind::PassKind;
 use read_metadata::metadata::Metadata;
-use read_program::closing::Parsed;
 use rv64_instr::reg::Reg;
 use std::alloc::Global;
 

@@ -2,6 +2,10 @@
 //! are made.
 #![tactic(auto)]
 
+pub use compile_function::{
+    dwarf_unit_crate as dwarf_unit_crate, read_program_crate as read_program_crate,
+};
+
 pub mod compile;
 mod function;
 

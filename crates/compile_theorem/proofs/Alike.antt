@@ -89,7 +89,7 @@ itself : (k : ItemKind) → AreAlike k k
 itself k = record { edge = λ enter p q way. way; back = λ enter p q way. way; tokens = λ resolve n t. refl }
 
 abbrev sum : ImmediateOp → (rd n : ℕ) (i : ℤ) (rest : List Operand) → (number : Option ℕ) → ItemKind
-sum op rd n i rest number = Code (record { op = Immediate op; operands = Def rd ∷ OfObject n ∷ Imm i ∷ rest }) number
+sum op rd n i rest number = Code (record { op = Immediate op; operands = Def rd ∷ OfObject n ∷ Imm i ∷ rest; volatile = false }) number
 
 given_alike : (call : Bool) (x : Operand) (n m : ℕ) (i j : ℤ) (rest : List Operand) (o : ℕ) →
     defined call (slice_get (x ∷ OfObject n ∷ Imm i ∷ rest) o) ≡ defined call (slice_get (x ∷ OfObject m ∷ Imm j ∷ rest) o)
@@ -132,10 +132,10 @@ sums_alike op number rd n m i j rest = record {
 }
 
 abbrev load : LoadOp → (rd n : ℕ) (i : ℤ) (rest : List Operand) → (number : Option ℕ) → ItemKind
-load op rd n i rest number = Code (record { op = Load op; operands = Def rd ∷ OfObject n ∷ Imm i ∷ rest }) number
+load op rd n i rest number = Code (record { op = Load op; operands = Def rd ∷ OfObject n ∷ Imm i ∷ rest; volatile = false }) number
 
 abbrev store : StoreOp → (rs n : ℕ) (i : ℤ) (rest : List Operand) → (number : Option ℕ) → ItemKind
-store op rs n i rest number = Code (record { op = Store op; operands = Use rs ∷ OfObject n ∷ Imm i ∷ rest }) number
+store op rs n i rest number = Code (record { op = Store op; operands = Use rs ∷ OfObject n ∷ Imm i ∷ rest; volatile = false }) number
 
 loaded_alike : (index rd : ℕ) (op : LoadOp) (n m x y : ℕ) (t : Tokens) →
     code_tokens index (Loads rd op (ObjectAt n) x) t ≡ code_tokens index (Loads rd op (ObjectAt m) y) t
@@ -178,13 +178,14 @@ module _ (f : FramedFunction) where
       (found.object, ap (λ (z : Option ListedObject). in_object z (x - own_size f) (by_pointer x)) found.is)
 
   to_object : (o : ImmediateOp) (rd n i : ℕ) (rest : List Operand) (number : Option ℕ) → HasBytes f.objects n (word (pos i)) →
-      AreAlike (sum o rd n (pos i) rest number) (Code (record { op = Immediate o; operands = settled_sum f (Def rd ∷ OfObject n ∷ Imm (pos i) ∷ rest) }) number)
+      AreAlike (sum o rd n (pos i) rest number) (Code (record { op = Immediate o; operands = settled_sum f (Def rd ∷ OfObject n ∷ Imm (pos i) ∷ rest); volatile = false }) number)
   to_object o rd n i rest number has =
       let found = addressed n i has in
       subst (λ (os : List Operand). AreAlike (sum o rd n (pos i) rest number) (Code (record {
         op = Immediate o;
         operands = Def rd ∷ os ++
             rest;
+        volatile = false;
       }) number)) (sym found.1)
       (sums_alike o number rd n found.0.id (pos i) (pos (own_size f + offset_of f.objects n + i - own_size f - found.0.offset)) rest)
 
@@ -194,51 +195,54 @@ module _ (f : FramedFunction) where
         op = Immediate op;
         operands = settled_sum f (Def rd ∷ OfObject n ∷ Imm
             (pos i) ∷ rest);
+        volatile = false;
       }) number)
   sum_settled Addi rd n i rest number form has = to_object Addi rd n i rest number has
   sum_settled Slti rd n i rest number form has = absurd cc
   sum_settled op rd n i rest number form has = absurd cc
 
   settled_alike : (op : ImmediateOp) (operands : List Operand) (number : Option ℕ) →
-      HasForm (Code (record { op = Immediate op; operands = operands }) number) →
-      ObjectsIn f.objects (Code (record { op = Immediate op; operands = operands }) number) →
-      AreAlike (Code (record { op = Immediate op; operands = operands }) number) (Code (record { op = Immediate op; operands = settled_sum f operands }) number)
+      HasForm (Code (record { op = Immediate op; operands = operands; volatile = false }) number) →
+      ObjectsIn f.objects (Code (record { op = Immediate op; operands = operands; volatile = false }) number) →
+      AreAlike (Code (record { op = Immediate op; operands = operands; volatile = false }) number) (Code (record { op = Immediate op; operands = settled_sum f operands; volatile = false }) number)
   settled_alike op (Def rd ∷ OfObject n ∷ Imm (pos i) ∷ rest) number form in_object = sum_settled op rd n i rest number form in_object
   settled_alike op (other ∷ OfObject n ∷ Imm (pos i) ∷ rest) number form in_object = absurd cc
-  settled_alike op operands number form in_object = itself (Code (record { op = Immediate op; operands = operands }) number)
+  settled_alike op operands number form in_object = itself (Code (record { op = Immediate op; operands = operands; volatile = false }) number)
 
-  load_settled : (op : LoadOp) (operands : List Operand) (number : Option ℕ) → HasForm (Code (record { op = Load op; operands = operands }) number) →
-      ObjectsIn f.objects (Code (record { op = Load op; operands = operands }) number) →
-      AreAlike (Code (record { op = Load op; operands = operands }) number) (Code (record { op = Load op; operands = settled_sum f operands }) number)
+  load_settled : (op : LoadOp) (operands : List Operand) (number : Option ℕ) → HasForm (Code (record { op = Load op; operands = operands; volatile = false }) number) →
+      ObjectsIn f.objects (Code (record { op = Load op; operands = operands; volatile = false }) number) →
+      AreAlike (Code (record { op = Load op; operands = operands; volatile = false }) number) (Code (record { op = Load op; operands = settled_sum f operands; volatile = false }) number)
   load_settled op (Def rd ∷ OfObject n ∷ Imm (pos i) ∷ rest) number form (o, is, fits) =
       let found = addressed n i (o, is, omega (arith, fits)) in
-      subst (λ (os : List Operand). AreAlike (load op rd n (pos i) rest number) (Code (record { op = Load op; operands = Def rd ∷ os ++ rest }) number))
+      subst (λ (os : List Operand). AreAlike (load op rd n (pos i) rest number) (Code (record { op = Load op; operands = Def rd ∷ os ++ rest; volatile = false }) number))
       (sym found.1)
       (loads_alike op number rd n found.0.id (pos i) (pos (own_size f + offset_of f.objects n + i - own_size f - found.0.offset)) rest)
   load_settled op (other ∷ OfObject n ∷ Imm (pos i) ∷ rest) number form has = absurd cc
-  load_settled op operands number form has = itself (Code (record { op = Load op; operands = operands }) number)
+  load_settled op operands number form has = itself (Code (record { op = Load op; operands = operands; volatile = false }) number)
 
-  store_settled : (op : StoreOp) (operands : List Operand) (number : Option ℕ) → HasForm (Code (record { op = Store op; operands = operands }) number) →
-      ObjectsIn f.objects (Code (record { op = Store op; operands = operands }) number) →
-      AreAlike (Code (record { op = Store op; operands = operands }) number) (Code (record { op = Store op; operands = settled_sum f operands }) number)
+  store_settled : (op : StoreOp) (operands : List Operand) (number : Option ℕ) → HasForm (Code (record { op = Store op; operands = operands; volatile = false }) number) →
+      ObjectsIn f.objects (Code (record { op = Store op; operands = operands; volatile = false }) number) →
+      AreAlike (Code (record { op = Store op; operands = operands; volatile = false }) number) (Code (record { op = Store op; operands = settled_sum f operands; volatile = false }) number)
   store_settled op (Use rs ∷ OfObject n ∷ Imm (pos i) ∷ rest) number form (o, is, fits) =
       let found = addressed n i (o, is, omega (arith, fits)) in
-      subst (λ (os : List Operand). AreAlike (store op rs n (pos i) rest number) (Code (record { op = Store op; operands = Use rs ∷ os ++ rest }) number))
+      subst (λ (os : List Operand). AreAlike (store op rs n (pos i) rest number) (Code (record { op = Store op; operands = Use rs ∷ os ++ rest; volatile = false }) number))
       (sym found.1)
       (stores_alike op number rs n found.0.id (pos i) (pos (own_size f + offset_of f.objects n + i - own_size f - found.0.offset)) rest)
   store_settled op (other ∷ OfObject n ∷ Imm (pos i) ∷ rest) number form has = absurd cc
-  store_settled op operands number form has = itself (Code (record { op = Store op; operands = operands }) number)
+  store_settled op operands number form has = itself (Code (record { op = Store op; operands = operands; volatile = false }) number)
 
-  code_alike : (op : Op) (operands : List Operand) (number : Option ℕ) → HasForm (Code (record { op = op; operands = operands }) number) →
-      ObjectsIn f.objects (Code (record { op = op; operands = operands }) number) →
-      AreAlike (Code (record { op = op; operands = operands }) number) (Code (record { op = op; operands = settled_operands f op operands }) number)
+  code_alike : (op : Op) (operands : List Operand) (number : Option ℕ) → HasForm (Code (record { op = op; operands = operands; volatile = false }) number) →
+      ObjectsIn f.objects (Code (record { op = op; operands = operands; volatile = false }) number) →
+      AreAlike (Code (record { op = op; operands = operands; volatile = false }) number) (Code (record { op = op; operands = settled_operands f op operands; volatile = false }) number)
   code_alike (Immediate op) operands number form has = settled_alike op operands number form has
   code_alike (Load op) operands number form has = load_settled op operands number form has
   code_alike (Store op) operands number form has = store_settled op operands number form has
-  code_alike op operands number form has = itself (Code (record { op = op; operands = operands }) number)
+  code_alike op operands number form has = itself (Code (record { op = op; operands = operands; volatile = false }) number)
 
   kind_alike : (k : ItemKind) → HasForm k → ObjectsIn f.objects k → AreAlike k (settled_kind f k)
-  kind_alike (Code c number) form has = code_alike c.op c.operands number form has
+  kind_alike (Code c number) form has =
+      let same = code_alike c.op c.operands number form has in
+      record { edge = same.edge; back = same.back; tokens = same.tokens }
   kind_alike (Mark v m) form has = itself (Mark v m)
   kind_alike (Phi p k) form has = itself (Phi p k)
 

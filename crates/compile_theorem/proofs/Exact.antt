@@ -18,11 +18,11 @@ use Rattle.mir_func.specs.Resolve.{resolve}
 use Rattle.mir_func.specs.Sound.{AllItems}
 use Rattle.mir_func.specs.Variables.{is_same_variable}
 use Rattle.sem_mir.specs.PreferredLocation.{IsPreferredLocation, NoneIsPreferred}
-use Rattle.sem_machine.specs.Exact.{AreExact}
+use Rattle.listing_meaning.specs.sem_machine.Exact.{AreExact}
 use Rattle.emit_code.specs.declared.code.EncodedInstruction.{EncodedInstruction}
 use Rattle.emit_code.specs.Rule.{Layout, entries_of}
 use Rattle.frame_rule.specs.Rule.{framed_of}
-use Rattle.machine_steps_proof.proofs.Points.{of_item}
+use Rattle.listing_meaning.proofs.machine_steps_proof.Points.{of_item}
 use Rattle.dwarf_loclists.specs.declared.range.Range.{Range}
 use Rattle.dwarf_loclists.specs.declared.range.Location.{Location}
 use Rattle.dwarf_loclists.specs.Ranges.{location_in, whole_place, nth_piece}

@@ -40,9 +40,9 @@ use Rattle.emit_code.specs.Rule.{added_before, site_words, way_words}
 use Rattle.emit_code.specs.steps.Emitted.{IsFormed}
 use Rattle.emit_code.proofs.Settled as settled
 use Rattle.emit_code.proofs.Stand.{site_length}
-use Rattle.machine_steps_proof.specs.Laid.{fetched}
-use Rattle.machine_steps_proof.proofs.Points.{of_item}
-use Rattle.machine_steps_proof.proofs.Addresses.{Chained, chained}
+use Rattle.listing_meaning.specs.machine_steps_proof.Laid.{fetched}
+use Rattle.listing_meaning.proofs.machine_steps_proof.Points.{of_item}
+use Rattle.listing_meaning.proofs.machine_steps_proof.Addresses.{Chained, chained}
 use Rattle.dwarf_loclists.specs.declared.range.Range.{Range}
 use Rattle.dwarf_loclists.specs.Grammar.{IsSection}
 use Rattle.listing_text.specs.declared.output.Line.{Line}
@@ -179,8 +179,8 @@ module _ (l : Layout) (variables : List ListedVariable) (substitutions : List De
       (offset_to l a (Always n), aimed (Always n) a target, record { operation = s.operation; lowered = s.is; stands = s.bytes })
 
   abbrev LongHas : (a : ℕ) (i : Item) (k : Option ℕ) (n : ℕ) (rest : List ℕ) → Op → List Operand → Type 0
-  LongHas a i k n rest op os = IsSome (skip_operation (record { op = op; operands = os })) → IsSome (jump_operation l a n) → TargetIn ids (row_by op os) →
-      drop a all ≡ bytes (word_if (skip_operation (record { op = op; operands = os })) ++ word_if (jump_operation l a n)) ++ rest →
+  LongHas a i k n rest op os = IsSome (skip_operation (record { op = op; operands = os; volatile = false })) → IsSome (jump_operation l a n) → TargetIn ids (row_by op os) →
+      drop a all ≡ bytes (word_if (skip_operation (record { op = op; operands = os; volatile = false })) ++ word_if (jump_operation l a n)) ++ rest →
       All HasItsBytes (branch_skip a i.origin op os ++ line_at (Some (a + 4)) i (Code (jump_to n) k) ∷ [])
 
   long_has : (a : ℕ) (i : Item) (k : Option ℕ) (rest : List ℕ) (b : BranchOp) (x y n : ℕ) (os : List Operand) →

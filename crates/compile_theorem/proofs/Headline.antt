@@ -9,7 +9,7 @@ use Rattle.mir_func.specs.Objects.{HasNoFixed}
 use Rattle.mir_func.specs.Resolve.{resolve}
 use Rattle.mir_func.specs.Sound.{AllItems}
 use Rattle.sem_mir.specs.PreferredLocation.{IsPreferredLocation}
-use Rattle.sem_machine.specs.Exact.{AreExact}
+use Rattle.listing_meaning.specs.sem_machine.Exact.{AreExact}
 use Rattle.emit_code.specs.declared.code.EncodedInstruction.{EncodedInstruction}
 use Rattle.emit_code.specs.Laid.{StandFrom}
 use Rattle.emit_code.specs.Rule.{Layout, entries_of}
@@ -17,9 +17,9 @@ use Rattle.emit_code.specs.steps.Emitted.{IsFormed}
 use Rattle.emit_code.proofs.Stand.{stands}
 use Rattle.frame_rule.specs.Rule.{framed_of}
 use Rattle.frame_rule.proofs.Reach.{size_fits}
-use Rattle.machine_steps_proof.specs.Images.{IsImageOf}
-use Rattle.machine_proof.specs.Lists.{GiveWanted}
-use Rattle.machine_proof.proofs.Lists.{exact_give_wanted}
+use Rattle.listing_meaning.specs.machine_steps_proof.Images.{IsImageOf}
+use Rattle.machine_proof.specs.Lists.{GiveSitting}
+use Rattle.machine_proof.proofs.Lists.{exact_give_sitting}
 use Rattle.machine_proof.specs.Entries.{IsEntryAt}
 use Rattle.machine_proof.proofs.LaidOut.{images_meet_the_headline}
 use Rattle.dwarf_loclists.specs.declared.range.Range.{Range}
@@ -83,9 +83,9 @@ module _ (names : ℕ → List ℕ) (o : Output) (lists : List (List Range)) (se
       subst (λ (x : ListedFunction). IsImageOf l (image_of o x)) (sym c.compiled.listed) (image_shown l (variable_lines names c.first
       (variables_of_function passed.source.function.blocks)) passed.substitutions o c.more formed unfixed at)
 
-  give_wanted : GiveWanted (framed_program (framed_of passed.function).blocks (resolve passed.substitutions)) (IsEntryAt c.compiled.layout) (Gives o f)
+  give_wanted : GiveSitting (framed_program (framed_of passed.function).blocks (resolve passed.substitutions)) (IsEntryAt c.compiled.layout) (Gives o f)
   give_wanted =
-      exact_give_wanted (framed_program c.compiled.layout.framed.blocks (resolve passed.substitutions))
+      exact_give_sitting (framed_program c.compiled.layout.framed.blocks (resolve passed.substitutions))
       (framed_program (framed_of passed.function).blocks (resolve passed.substitutions)) (IsByteOf (entries_of c.compiled.layout))
       (IsEntryAt c.compiled.layout) (Gives o f) exact (first_byte c.compiled.layout)
       (λ v p place wanted. subst (λ (x : FramedFunction). IsPreferredLocation (framed_program x.blocks (resolve passed.substitutions)) (block_start 0) v p

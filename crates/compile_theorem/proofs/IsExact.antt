@@ -16,7 +16,7 @@ use Rattle.mir_func.specs.Resolve.{resolve}
 use Rattle.mir_func.specs.Sound.{AllItems, ObjectsIn, contents_of}
 use Rattle.mir_func.specs.Successors.{pos_in}
 use Rattle.sem_mir.specs.PreferredLocation.{IsPreferredLocation, NoneIsPreferred}
-use Rattle.sem_machine.specs.Exact.{AreExact}
+use Rattle.listing_meaning.specs.sem_machine.Exact.{AreExact}
 use Rattle.emit_code.specs.Rule.{entries_of}
 use Rattle.emit_code.specs.steps.Emitted.{IsFormed, point_of as as_point}
 use Rattle.dwarf_loclists.specs.declared.range.Range.{Range}

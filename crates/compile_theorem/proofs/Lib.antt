@@ -13,3 +13,4 @@ pub mod Addresses
 pub mod Lowering
 pub mod HaveWords
 pub mod Codes
+pub use Rattle.listing_meaning.proofs as listing_meaning

@@ -17,6 +17,7 @@ use Rattle.rv64_instr.specs.declared.op.StoreOp.{StoreOp}
 use Rattle.rv64_instr.specs.declared.op.StoreOp.TheVariants.{Sd, Sb, Sh, Sw}
 use Rattle.rv64_instr.specs.declared.operand.Operand.{Operand}
 use Rattle.rv64_instr.specs.declared.operand.Operand.TheVariants.{Def, Use, ImplicitDef, ImplicitUse, Imm, Slot, Object as OfObject, Part, Block, Symbol, Mask}
+use Rattle.rv64_instr.specs.declared.operand.Operand.TheVariants.{GlobalRegisters}
 use Rattle.rv64_instr.specs.declared.symbol.Half.TheVariants.{Upper, Lower}
 use Rattle.rv64_instr.specs.Form.{has_form, fits_jump, fits_copy, fits_branch, fits_registers, fits_upper, fits_load, fits_store}
 use Rattle.rv64_instr.specs.Form.{fits_immediate, is_held_tail_use, is_held_tail_register, fits_held_call, fits_gone, fits_held_gone, fits_tail, fits_held_tail}
@@ -115,6 +116,7 @@ module _ (f : FramedFunction) (offset : ℤ) where
   behind_tail : (x : Operand) (os : List Operand) → list_all is_held_tail_use os ≡ true → by_pointer f (x ∷ os) ≡ x ∷ os
   behind_tail x [] all = refl
   behind_tail x (ImplicitUse r ∷ os) all = refl
+  behind_tail x (GlobalRegisters ∷ os) all = refl
   behind_tail x (o ∷ os) all = absurd cc
 
   -- operands that stay give the same code
@@ -122,7 +124,7 @@ module _ (f : FramedFunction) (offset : ℤ) where
   stays_same op os ps e h = subst (SameCode f offset op os) (sym e) h
 
   held_call_same : (os : List Operand) → fits_held_call os ≡ true → SameCode f offset PseudoCallIndirect os (by_pointer f os)
-  held_call_same (ImplicitUse r ∷ Mask ∷ rest) form = record { fields = refl; exit = refl }
+  held_call_same (Use r ∷ Mask ∷ rest) form = record { fields = refl; exit = refl }
   held_call_same os form = absurd cc
 
   tail_same : (os : List Operand) → fits_tail os ≡ true → SameCode f offset PseudoTail os (by_pointer f os)

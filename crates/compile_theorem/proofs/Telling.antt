@@ -18,8 +18,8 @@ use Rattle.dwarf_loclists.specs.declared.range.Part.{Part}
 use Rattle.dwarf_loclists.specs.declared.range.Location.{Location}
 use Rattle.dwarf_loclists.specs.declared.range.Location.TheVariants.{Whole, Parts}
 use Rattle.dwarf_loclists.specs.Ranges.{whole_place, nth_piece}
-use Rattle.location_of_variable.specs.Groups.{part_of}
-use Rattle.location_of_variable.specs.VariableLocation.{bytes_of, AreWantedPieces, IsWantedLocation}
+use Rattle.location_ranges.specs.location_of_variable.Groups.{part_of}
+use Rattle.location_ranges.specs.location_of_variable.VariableLocation.{bytes_of, AreWantedPieces, IsWantedLocation}
 use Rattle.compile_theorem.proofs.OneWanted.{one_wanted}
 
 -- a location tells a part a place

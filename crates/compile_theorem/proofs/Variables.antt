@@ -18,9 +18,9 @@ use Rattle.sem_mir.specs.State.{assigned}
 use Rattle.sem_mir.specs.ValueId.{Token, Tokens, Path, begin, onward, after_item, after_fetch, mark_token, variable_token}
 use Rattle.sem_mir.specs.PreferredLocation.{NoneIsPreferred}
 use Rattle.sem_mir.proofs.Assignments.{same_is, same_variable_refl}
-use Rattle.sem_value_ids.specs.Pullback.{OfVariable}
-use Rattle.sem_value_ids.proofs.Backwards.{tokens_pull_back}
-use Rattle.dwarf_line_table.specs.Files.{with_new, first_uses}
+use Rattle.listing_meaning.specs.sem_value_ids.Pullback.{OfVariable}
+use Rattle.listing_meaning.proofs.sem_value_ids.Backwards.{tokens_pull_back}
+use Rattle.dwarf_unit.specs.dwarf_line_table.Files.{with_new, first_uses}
 use Rattle.dwarf_unit.specs.Variables.{whole, marked, marks_of, variables_of_function}
 use Rattle.compile_theorem.specs.Source.{MarksOneOf}
 

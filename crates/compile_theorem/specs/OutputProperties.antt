@@ -7,8 +7,8 @@ use Rattle.mir_func.specs.Parts.{Bytes}
 use Rattle.mir_func.specs.Resolve.{resolve}
 use Rattle.mir_func.specs.Sound.{contents_of}
 use Rattle.dwarf_loclists.specs.Grammar.{PlaceAt, PieceAt}
-use Rattle.sem_machine.specs.Headline.{Headline}
-use Rattle.sem_machine.specs.Exact.{AreExact}
+use Rattle.listing_meaning.specs.sem_machine.Headline.{Headline}
+use Rattle.listing_meaning.specs.sem_machine.Exact.{AreExact}
 use Rattle.frame_rule.specs.Rule.{framed_of}
 use Rattle.listing_text.specs.declared.output.ListedFunction.{ListedFunction}
 use Rattle.listing_text.specs.declared.output.ListedVariable.{ListedVariable}

@@ -1,5 +1,6 @@
 -- The functions of an output: the sources that were read, and the functions that passes made of them.
 use Rattle.std.specs.Prelude.{◌≡◌, ℕ, List, length, map, Some, slice_get, Contains}
+use Rattle.mir_exposure.specs.declared.exposure.Exposure.{Exposure}
 use Rattle.mir_func.specs.declared.debug_substitution.DebugSubstitution.{DebugSubstitution}
 use Rattle.mir_func.specs.declared.item.ItemKind.{ItemKind}
 use Rattle.mir_func.specs.declared.item.ItemKind.TheVariants.{Code, Mark, Phi}
@@ -14,10 +15,11 @@ use Rattle.machine_proof.specs.Followers.{IsFollower}
 use Rattle.listing_text.specs.declared.output.ListedFunction.{ListedFunction}
 use Rattle.dwarf_unit.specs.Variables.{whole, variables_of_function}
 
--- a source function: as it was read, with its debug value substitutions
+-- a source function: as it was read, with its debug value substitutions and what it exposes to other code
 pub record SourceFunction : Type 0 where
   pub function : Function
   pub substitutions : List DebugSubstitution
+  pub exposure : Exposure
 
 -- What a source function satisfies: the origin of each item is its own position, the operands of code have the form of the opcode, registers are
 -- physical, the function is sound, and none of its objects is fixed.

@@ -3,4 +3,6 @@
 //! frames, and `.text` has the encoding of each listed instruction.
 #![tactic(auto)]
 
+pub use location_ranges as location_ranges_crate;
+
 pub mod laws;

@@ -5,3 +5,4 @@ pub mod Table
 pub mod steps
 pub mod Rows
 pub mod Laws
+pub use Rattle.emit_code.specs as emit_code

@@ -6,7 +6,7 @@ ghost use Rattle.dwarf_line_table.specs.Files.{number_in, with_new, is_file, dir
 
 use crate::entries::{Entries, make_entries};
 use indexmap::IndexSet;
-use rv64_instr::name::Name;
+use mir_func::rv64_instr_crate::name::Name;
 use std::alloc::{AllocError, Global};
 use std::marker::Model;
 

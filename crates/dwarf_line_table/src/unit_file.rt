@@ -10,9 +10,9 @@ use crate::file::SourceFile;
 use crate::source_and_code::SourceAndCode;
 use base_list::List;
 use dwarf_info::entry::text_of;
+use mir_func::rv64_instr_crate::name::Name;
 use read_metadata::metadata::Metadata;
 use read_metadata::node::FileNode;
-use rv64_instr::name::Name;
 use std::alloc::{AllocError, Global};
 
 /// The unit's file: that of the first function whose subprogram has a readable one, or an empty name and directory if

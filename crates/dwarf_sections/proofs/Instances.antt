@@ -3,25 +3,25 @@ use Rattle.std.proofs.Common.{◌≡◌, ℕ, suc, ◌+◌, ◌<◌, ◌≤◌, 
 use Rattle.std.proofs.Common.{length-append, inl, inr, arith}
 use Rattle.std.proofs.lemmas.List.{take_more, length-map}
 use Rattle.std.proofs.lemmas.List.Elements.{All-nil, All-cons, All-append, All-push, All-head, All-tail, All-map}
-use Rattle.emit_code.specs.Laid.{StandFrom}
+use Rattle.frame_table.specs.emit_code.Laid.{StandFrom}
 use Rattle.read_metadata.specs.Maps.{Maps}
 use Rattle.dwarf_base.specs.Limits.{SECTION_LIMIT}
 use Rattle.dwarf_info.specs.Inlined.{inlined_spelling}
 use Rattle.dwarf_info.specs.declared.inlined.InlinedUnit.{InlinedUnit}
 use Rattle.dwarf_line.specs.Spelling.{spelling as rows_spelling}
 use Rattle.dwarf_line.specs.declared.table.LineTable.{LineTable}
-use Rattle.dwarf_line_table.specs.declared.source_and_code.SourceAndCode.{SourceAndCode}
-use Rattle.dwarf_line_table.specs.Program.{function_end, table_with, scope_number}
+use Rattle.dwarf_unit.specs.dwarf_line_table.declared.source_and_code.SourceAndCode.{SourceAndCode}
+use Rattle.dwarf_unit.specs.dwarf_line_table.Program.{function_end, table_with, scope_number}
 use Rattle.dwarf_rnglists.specs.declared.range.AddressRange.{AddressRange}
 use Rattle.dwarf_rnglists.specs.Ranges.{Ascend}
 use Rattle.dwarf_rnglists.specs.Grammar.{IsSection}
 use Rattle.dwarf_rnglists.specs.Spelling.{spelling}
 use Rattle.dwarf_rnglists.proofs.SpellingLemmas.{length-spelling}
-use Rattle.inline_instances.specs.Instances.{scope_of_call}
-use Rattle.inline_subroutines.specs.declared.subroutine.InlinedSubroutine.{InlinedSubroutine}
-use Rattle.inline_subroutines.specs.Subroutines.{AreSubroutines, AreOrdered}
-use Rattle.inline_subroutines.proofs.Made.{ascend_of_subroutines}
-use Rattle.inline_subroutines.proofs.Ordered.{subroutines_ordered}
+use Rattle.dwarf_unit.specs.inline_instances.Instances.{scope_of_call}
+use Rattle.dwarf_unit.specs.inline_subroutines.declared.subroutine.InlinedSubroutine.{InlinedSubroutine}
+use Rattle.dwarf_unit.specs.inline_subroutines.Subroutines.{AreSubroutines, AreOrdered}
+use Rattle.dwarf_unit.proofs.inline_subroutines.Made.{ascend_of_subroutines}
+use Rattle.dwarf_unit.proofs.inline_subroutines.Ordered.{subroutines_ordered}
 use Rattle.dwarf_unit.specs.Inlined.{call_scopes, inlined_unit_of}
 use Rattle.dwarf_sections.specs.Inlined.{HaveInstances, range_lists, AreInlinedSections, IsLargeInlined}
 use Rattle.dwarf_sections.proofs.Described.{zip_push}

@@ -1,7 +1,7 @@
 -- The section `.debug_frame` of functions.
 use Rattle.std.specs.Prelude.{ℕ, ◌≤◌, List, length}
 use Rattle.std.specs.List.{AllZip}
-use Rattle.emit_code.specs.Laid.{LaidCode, IsCodeOf}
+use Rattle.frame_table.specs.emit_code.Laid.{LaidCode, IsCodeOf}
 use Rattle.dwarf_base.specs.Limits.{SECTION_LIMIT}
 use Rattle.dwarf_frame.specs.declared.table.FrameDescription.{FrameDescription}
 use Rattle.dwarf_frame.specs.FirstFault.{IsSection}

@@ -5,13 +5,13 @@ use Rattle.read_metadata.specs.Maps.{Maps}
 use Rattle.dwarf_base.specs.Limits.{SECTION_LIMIT}
 use Rattle.dwarf_info.specs.Inlined.{inlined_spelling}
 use Rattle.dwarf_line.specs.Spelling.{spelling as rows_spelling}
-use Rattle.dwarf_line_table.specs.declared.source_and_code.SourceAndCode.{SourceAndCode}
-use Rattle.dwarf_line_table.specs.Program.{table_with}
+use Rattle.dwarf_unit.specs.dwarf_line_table.declared.source_and_code.SourceAndCode.{SourceAndCode}
+use Rattle.dwarf_unit.specs.dwarf_line_table.Program.{table_with}
 use Rattle.dwarf_rnglists.specs.declared.range.AddressRange.{AddressRange}
 use Rattle.dwarf_rnglists.specs.Grammar.{IsSection}
 use Rattle.dwarf_rnglists.specs.Spelling.{spelling as ranges_spelling}
-use Rattle.inline_subroutines.specs.declared.subroutine.InlinedSubroutine.{InlinedSubroutine}
-use Rattle.inline_subroutines.specs.Subroutines.{AreSubroutines}
+use Rattle.dwarf_unit.specs.inline_subroutines.declared.subroutine.InlinedSubroutine.{InlinedSubroutine}
+use Rattle.dwarf_unit.specs.inline_subroutines.Subroutines.{AreSubroutines}
 use Rattle.dwarf_unit.specs.Inlined.{call_scopes, inlined_unit_of}
 
 -- the instances of each function

@@ -2,7 +2,7 @@
 
 ghost use Rattle.std.specs.Prelude.{◌≡◌, ◌-◌, ◌<◌, ◌≤◌, ◌^◌, ◌++◌, map, All, IfOk, OnOk, IsErrOf, length};
 ghost use Rattle.dwarf_base.specs.Limits.{SECTION_LIMIT};
-ghost use Rattle.dwarf_line_table.specs.Program.{MAX_FUNCTIONS};
+ghost use Rattle.dwarf_unit.specs.dwarf_line_table.Program.{MAX_FUNCTIONS};
 ghost use Rattle.dwarf_rnglists.specs.Ranges.{Ascend};
 ghost use Rattle.dwarf_unit.specs.Unit.{program_variables};
 ghost use Rattle.dwarf_sections.specs.Inlined.{HaveInstances, AreInlinedSections, IsLargeInlined, range_lists};
@@ -12,14 +12,14 @@ use base_list::List;
 use dwarf_info::inlined_write::write_inlined_info;
 use dwarf_line::size::line_size;
 use dwarf_line::write::write_line;
-use dwarf_line_table::line_table::{NumberedTable, line_table_with};
-use dwarf_line_table::source_and_code::SourceAndCode;
 use dwarf_rnglists::range::AddressRangeLists;
 use dwarf_rnglists::section::{ranges_size, write_ranges};
+use dwarf_unit::dwarf_line_table_crate::line_table::{NumberedTable, line_table_with};
+use dwarf_unit::dwarf_line_table_crate::source_and_code::SourceAndCode;
+use dwarf_unit::inline_subroutines_crate::subprogram::Subprograms;
+use dwarf_unit::inline_subroutines_crate::subroutine::{InlinedSubroutine, InlinedSubroutines};
+use dwarf_unit::inline_subroutines_crate::subroutines::subroutines;
 use dwarf_unit::inlined::{call_scopes, make_inlined_unit};
-use inline_subroutines::subprogram::Subprograms;
-use inline_subroutines::subroutine::{InlinedSubroutine, InlinedSubroutines};
-use inline_subroutines::subroutines::subroutines;
 use listing_text::output::Bytes;
 use read_metadata::metadata::Metadata;
 use std::alloc::{AllocError, Global};

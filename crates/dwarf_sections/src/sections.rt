@@ -11,7 +11,7 @@ ghost use Rattle.dwarf_loclists.specs.Grammar.{IsSection};
 ghost use Rattle.dwarf_sections.specs.declared.sections.SectionError.TheVariants.{Memory};
 ghost use Rattle.dwarf_sections.specs.Frame.{IsOfFunction, IsFrameSection, IsLargeFrameSection};
 ghost use Rattle.frame_table.specs.Table.{Describes};
-ghost use Rattle.dwarf_line_table.specs.Program.{MAX_FUNCTIONS, table_of};
+ghost use Rattle.dwarf_unit.specs.dwarf_line_table.Program.{MAX_FUNCTIONS, table_of};
 ghost use Rattle.dwarf_unit.specs.Unit.{program_variables, unit_of};
 ghost use Rattle.dwarf_base.specs.Limits.{SECTION_LIMIT};
 
@@ -23,10 +23,10 @@ use dwarf_info::size::info_size;
 use dwarf_info::write::write_info;
 use dwarf_line::size::line_size;
 use dwarf_line::write::write_line;
-use dwarf_line_table::line_table::line_table;
-use dwarf_line_table::source_and_code::SourceAndCode;
 use dwarf_loclists::range::RangeLists;
 use dwarf_loclists::section::{lists_size, write_lists};
+use dwarf_unit::dwarf_line_table_crate::line_table::line_table;
+use dwarf_unit::dwarf_line_table_crate::source_and_code::SourceAndCode;
 use dwarf_unit::unit::make_unit;
 use frame_table::description::description;
 use listing_text::output::Bytes;
@@ -124,7 +124,7 @@ pub fn frame(alloc: Global, functions: &[SourceAndCode]) -> Result<Bytes, Sectio
 }
 
 /// The call frame information of functions' code, in their order.
-fn descriptions(
+pub fn descriptions(
     alloc: Global,
     functions: &[SourceAndCode],
 ) -> Result<List<FrameDescription>, AllocError>

@@ -20,7 +20,7 @@ use Rattle.dwarf_line_table.specs.Files.{with_new, first_uses}
 use Rattle.dwarf_line_table.specs.Program.{program_file, scope_number}
 use Rattle.dwarf_line_table.proofs.FirstUses.{lengthened, uses_append, joined_only}
 use Rattle.dwarf_line_table.proofs.Split.{split_at}
-use Rattle.inline_instances.specs.Instances.{scope_of_call}
+use Rattle.inline_subroutines.specs.inline_instances.Instances.{scope_of_call}
 use Rattle.inline_subroutines.specs.declared.subroutine.InlinedSubroutine.{InlinedSubroutine}
 use Rattle.dwarf_unit.specs.Unit.{type_uses, variable_entry, variables_from, function_variables, program_variables, program_types, base_entries}
 use Rattle.inline_subroutines.specs.Subroutines.{AreDistinct}

@@ -2,7 +2,7 @@
 use Rattle.std.proofs.Common.{◌≡◌, ◌⊎◌, ℕ, suc, Bool, cond, List, [], ◌∷◌, drop, Option, Some, None, refl, sym, ◌∙◌, ap, nat_eq, nat_cmp, inl, inr}
 use Rattle.std.specs.BTreeMap.{BTreeMap, get, Updates}
 use Rattle.std.proofs.lemmas.Bool.{cases_eq, eq-eqb, ne_eqb}
-use Rattle.inline_instances.proofs.Marks.{other_key}
+use Rattle.inline_subroutines.proofs.inline_instances.Marks.{other_key}
 use Rattle.inline_subroutines.specs.declared.subroutine.InlinedSubroutine.{InlinedSubroutine}
 use Rattle.dwarf_unit.specs.steps.Calls.{place_from}
 

@@ -5,7 +5,7 @@ use Rattle.std.specs.List.{list_any}
 use Rattle.std.specs.Option.{option_eq, option_and_then}
 use Rattle.std.proofs.lemmas.Bool.{ne_eqb, eq-eqb, eqb-true, or_parts}
 use Rattle.mir_func.specs.declared.variable.VarId.{VarId}
-use Rattle.inline_instances.proofs.Ways.{none_is_some, some_is_some}
+use Rattle.inline_subroutines.proofs.inline_instances.Ways.{none_is_some, some_is_some}
 use Rattle.inline_subroutines.specs.declared.subroutine.InlinedSubroutine.{InlinedSubroutine}
 use Rattle.inline_subroutines.specs.Subroutines.{AreDistinct}
 use Rattle.dwarf_unit.specs.Inlined.{is_in, is_own}

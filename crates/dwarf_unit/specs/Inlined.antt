@@ -15,7 +15,7 @@ use Rattle.dwarf_line_table.specs.declared.source_and_code.SourceAndCode.{Source
 use Rattle.dwarf_line_table.specs.Files.{first_uses}
 use Rattle.dwarf_line_table.specs.Program.{program_file, scope_number}
 use Rattle.inline_subroutines.specs.declared.subroutine.InlinedSubroutine.{InlinedSubroutine}
-use Rattle.inline_instances.specs.Instances.{scope_of_call}
+use Rattle.inline_subroutines.specs.inline_instances.Instances.{scope_of_call}
 use Rattle.dwarf_unit.specs.Unit.{variable_entry, function_variables, code_length, program_types, base_entries}
 
 -- the scopes of the calls of all functions, in their order

@@ -9,7 +9,7 @@ ghost use Rattle.read_metadata.specs.Metadata.{location_at};
 ghost use Rattle.dwarf_info.specs.Inlined.{IsInlinedFunction};
 ghost use Rattle.dwarf_line_table.specs.Files.{first_uses};
 ghost use Rattle.dwarf_line_table.specs.Program.{scope_number};
-ghost use Rattle.inline_instances.specs.Instances.{scope_of_call};
+ghost use Rattle.inline_subroutines.specs.inline_instances.Instances.{scope_of_call};
 ghost use Rattle.dwarf_unit.specs.Unit.{function_variables, program_variables, type_uses};
 ghost use Rattle.inline_subroutines.specs.Subroutines.{AreDistinct, AreOrdered};
 ghost use Rattle.dwarf_unit.specs.Inlined.{call_scopes, line_or_zero, column_or_zero};

@@ -3,6 +3,9 @@
 //! location lists are numbered in this order over all functions, and base types are ordered by their first variable.
 #![tactic(auto)]
 
+pub use dwarf_line_table as dwarf_line_table_crate;
+pub use inline_subroutines as inline_subroutines_crate;
+
 pub mod function;
 pub mod inlined;
 pub mod subprograms;

@@ -18,11 +18,11 @@ use Rattle.frame_table.specs.Table.{entry_row}
 use Rattle.frame_table.proofs.Shown.{sections_show_frames}
 use Rattle.dwarf_loclists.specs.declared.range.Range.{Range}
 use Rattle.dwarf_sections.specs.Frame.{IsFrameSection}
-use Rattle.dwarf_unit.specs.Variables.{variables_of_function}
+use Rattle.dwarf_sections.specs.dwarf_unit.Variables.{variables_of_function}
 use Rattle.listing_text.specs.declared.output.ListedFunction.{ListedFunction}
 use Rattle.listing_text.specs.declared.output.Output.{Output}
-use Rattle.listing_meaning.specs.Program.{image_of}
-use Rattle.listing_meaning.proofs.Images.{image_shown}
+use Rattle.compile_theorem.specs.listing_meaning.Program.{image_of}
+use Rattle.compile_theorem.proofs.listing_meaning.Images.{image_shown}
 use Rattle.compile_theorem.specs.Compiled.{bytes_of, AreCoded, IsCompiledFunction, AreCompiled}
 use Rattle.compile_theorem.specs.Laws.{AreCompiledTo}
 use Rattle.compile_theorem.specs.OutputProperties.{variable_lines}

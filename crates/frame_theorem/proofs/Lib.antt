@@ -5,3 +5,4 @@ pub mod Lines
 pub mod Unwinds
 pub mod Compiled
 pub mod Suspended
+pub use Rattle.compile_theorem.proofs as compile_theorem

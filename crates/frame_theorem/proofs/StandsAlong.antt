@@ -33,7 +33,7 @@ use Rattle.machine_steps_proof.specs.Steps.{framed_run, Level, goes, gives, wait
 use Rattle.machine_steps_proof.proofs.Lands.{Lands, Settles, now, past_item, past_end, first_lands}
 use Rattle.machine_steps_proof.proofs.Quiet.{past_debug, past_end as past_block, steps_beside}
 use Rattle.machine_steps_proof.proofs.Sites.{step_lands}
-use Rattle.machine_proof.specs.Lists.{GiveWanted, IsPointAt, at_code, at_jump}
+use Rattle.machine_proof.specs.Lists.{GiveSitting, IsPointAt, at_code, at_jump}
 use Rattle.machine_proof.specs.Runs.{ComesFrom, start_beside, RunsBeside}
 use Rattle.machine_proof.proofs.Headline.{stage_along}
 use Rattle.machine_proof.proofs.Late.{IsFilled, steps_quietly}
@@ -105,7 +105,7 @@ module _ (source f : Function) (resolve fresolve : OperandPair → Option Operan
   abbrev nowhere : VarId → (address : ℕ) → Place → Type 0
   nowhere v a place = ⊥
 
-  none_wanted : GiveWanted (framed_program (framed_of f).blocks fresolve) (IsPointAt (framed_of f) laid.address) nowhere
+  none_wanted : GiveSitting (framed_program (framed_of f).blocks fresolve) (IsPointAt (framed_of f) laid.address) nowhere
   none_wanted v a place none p at = absurd none
 
   abbrev StageAt : Machine → State → Since → Type 0

@@ -13,7 +13,7 @@ use Rattle.mir_func.specs.Graph.{block_start, program_of, framed_program}
 use Rattle.mir_func.specs.SoundFrame.{IsSlotOffset, IsFramed}
 use Rattle.mir_func.specs.Variables.{part_value}
 use Rattle.sem_mir.specs.Align.{Since, Tells}
-use Rattle.sem_mir.specs.PreferredLocation.{IsPreferredLocation}
+use Rattle.sem_mir.specs.PreferredLocation.{SitsIn}
 use Rattle.sem_mir.specs.State.{Core, State, Called, Reply, spelled, updated, written, in_frame, writes_frame}
 use Rattle.sem_mir.specs.Step.{or_zero}
 use Rattle.sem_mir.specs.ValueId.{Token, Tokens, Path, place_token}
@@ -159,12 +159,12 @@ module _ (f : FramedFunction) (framed : IsFramed f) (resolve : OperandPair → O
   place_kept path (Slot o) q at kept = slot_kept o (slot_offset f framed resolve path o q at) (slot_up f framed resolve path o q at) kept
   place_kept path (Const c) q at kept = refl
 
-  pub wanted_kept : (v : VarId) (place : Place) → IsPreferredLocation (framed_program f.blocks resolve) (block_start 0) v p place → IsKeptPlace outgoing place →
+  pub sitting_kept : (v : VarId) (place : Place) → SitsIn (framed_program f.blocks resolve) (block_start 0) v place p → IsKeptPlace outgoing place →
       place_content place k ≡ place_content place m
-  wanted_kept v place wanted kept =
-      let reached = wanted.sits.reached in
-      let sits = wanted.sits.same reached.0 reached.1 reached.2 in
-      place_kept reached.2 place sits.0 sits.2 kept
+  sitting_kept v place sits kept =
+      let reached = sits.reached in
+      let token = sits.same reached.0 reached.1 reached.2 in
+      place_kept reached.2 place token.0 token.2 kept
 
 -- what is owed at a line
 abbrev IsHeld : (lists : VarId → (address : ℕ) → Place → Type 0) → Function → (OperandPair → Option OperandPair) → (outgoing : List ℕ) (m k : Machine) →
@@ -183,7 +183,7 @@ suspended_frames_hold lists source f resolve fresolve image h physical small is 
           agrees.1,
           λ v place given kept.
               subst (λ (x : ℕ). Tells agrees.0 v (part_value v x))
-              (sym (wanted_kept (framed_of f) (framed source f resolve fresolve image h physical small is) fresolve s0.core at.point m at.stands outgoing k
+              (sym (sitting_kept (framed_of f) (framed source f resolve fresolve image h physical small is) fresolve s0.core at.point m at.stands outgoing k
               keeps
               v place (wanted v m.counter place given at.point at.entry) kept)) (agrees.2.places v place given),
         )

@@ -23,7 +23,7 @@ use Rattle.frame_rule.specs.Rule.{reach_of, framed_of}
 use Rattle.machine_proof.specs.Entries.{IsEntryAt}
 use Rattle.machine_proof.specs.Followers.{IsFollower}
 use Rattle.machine_proof.specs.LaidOut.{IsImageOfFunction}
-use Rattle.machine_proof.specs.Lists.{GiveWanted}
+use Rattle.machine_proof.specs.Lists.{GiveSitting}
 
 -- k has what a callee leaves as it is in m, which calls it and passes these slots: all registers but the caller-saved ones, and the bytes of the caller's
 -- frame from its stack pointer up, but for those slots
@@ -50,11 +50,11 @@ HoldsKept lists outgoing m k s = (v : VarId) (place : Place) → lists v m.count
     Tells s v (part_value v (place_content place k))
 
 -- Where the machine waits at a line, a debugger that reads these places in the registers and the memory that a callee keeps finds the source's values,
--- unless the source stops on a frame fault before the line: if the lists name only required places.
+-- unless the source stops on a frame fault before the line: if the lists name only places that have the value.
 abbrev pub SuspendedFramesHold : (lists : VarId → (address : ℕ) → Place → Type 0) → Type 0
 SuspendedFramesHold lists = (source f : Function) (resolve fresolve : OperandPair → Option OperandPair) (image : Image) →
     IsFollower source f resolve fresolve → AllItems (λ i. HasPhysical i.kind) f.blocks → reach_of f ≤ MAX_FRAME → (is : IsImageOfFunction f image) →
-    GiveWanted (framed_program (framed_of f).blocks fresolve) (IsEntryAt is.layout) lists → (s0 : State) → StartsAt source s0 →
+    GiveSitting (framed_program (framed_of f).blocks fresolve) (IsEntryAt is.layout) lists → (s0 : State) → StartsAt source s0 →
     (m : Machine) (s : State) (since : Since) (l : CodeLine) →
     MachineAlong (program_of true source.blocks resolve) image (machine_start image s0) s0 m s since → line_at image.lines m.counter ≡ Some l →
     (outgoing : List ℕ) (k : Machine) → KeepsCaller outgoing m k →

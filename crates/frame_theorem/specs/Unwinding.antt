@@ -15,7 +15,7 @@ use Rattle.dwarf_frame.specs.declared.table.RegisterRule.TheVariants.{SameValue,
 use Rattle.dwarf_frame.specs.declared.table.UnwindingRules.{UnwindingRules}
 use Rattle.dwarf_frame.specs.Rows.{RulesAt}
 use Rattle.listing_text.specs.declared.output.Output.{Output}
-use Rattle.listing_meaning.specs.Program.{image_of}
+use Rattle.compile_theorem.specs.listing_meaning.Program.{image_of}
 use Rattle.compile_theorem.specs.Source.{SourceFunction, OfEach}
 
 -- the canonical frame address: x2 and the offset. Addresses wrap at 64 bits

@@ -34,7 +34,8 @@ pub fn calls_keep_caller()
     ensures { CallsKeepCaller }
 {}
 
-/// In a suspended frame the places that a callee keeps hold the source's values, if lists name only required places.
+/// In a suspended frame the places that a callee keeps hold the source's values, if lists name only places with the
+/// value.
 pub fn suspended_frames_hold<L: LocationLists>()
     ensures { SuspendedFramesHold L.gives }
 {}

@@ -1,5 +1,5 @@
 -- The items of generated functions.
-use Rattle.std.specs.Prelude.{ℕ, ◌+◌, pos, List, [], ◌∷◌, Option, Some, None, slice_index}
+use Rattle.std.specs.Prelude.{ℕ, ◌+◌, pos, false, List, [], ◌∷◌, Option, Some, None, slice_index}
 use Rattle.rv64_instr.specs.declared.op.Op.TheVariants.{Registers, Immediate, Branch, Load, Store, Copy, PseudoBr, PseudoRet}
 use Rattle.rv64_instr.specs.declared.op.RegisterOp.TheVariants.{Add}
 use Rattle.rv64_instr.specs.declared.op.ImmediateOp.TheVariants.{Addi}
@@ -27,23 +27,23 @@ variable_of n = record { node = 10 + n; inlined_at = None; fragment = None }
 
 -- `rd = ADD rs, rt`, with a debug instruction number
 abbrev pub add : (rd rs rt number : ℕ) → ItemKind
-add rd rs rt k = Code (record { op = Registers Add; operands = Def rd ∷ Use rs ∷ Use rt ∷ [] }) (Some k)
+add rd rs rt k = Code (record { op = Registers Add; operands = Def rd ∷ Use rs ∷ Use rt ∷ []; volatile = false }) (Some k)
 
 -- `rd = COPY rs`
 abbrev pub copy : (rd rs : ℕ) → (number : Option ℕ) → ItemKind
-copy rd rs k = Code (record { op = Copy; operands = Def rd ∷ Use rs ∷ [] }) k
+copy rd rs k = Code (record { op = Copy; operands = Def rd ∷ Use rs ∷ []; volatile = false }) k
 
 -- `rd = ADDI $x0, n`, with a debug instruction number
 abbrev pub constant : (rd n number : ℕ) → ItemKind
-constant rd n k = Code (record { op = Immediate Addi; operands = Def rd ∷ Use 0 ∷ Imm (pos n) ∷ [] }) (Some k)
+constant rd n k = Code (record { op = Immediate Addi; operands = Def rd ∷ Use 0 ∷ Imm (pos n) ∷ []; volatile = false }) (Some k)
 
 -- `SD rs, %stack.N, 0`
 abbrev pub store : (rs slot : ℕ) → ItemKind
-store rs n = Code (record { op = Store Sd; operands = Use rs ∷ OfSlot n ∷ Imm (pos 0) ∷ [] }) None
+store rs n = Code (record { op = Store Sd; operands = Use rs ∷ OfSlot n ∷ Imm (pos 0) ∷ []; volatile = false }) None
 
 -- `rd = LD %stack.N, 0`, with a debug instruction number
 abbrev pub load : (rd slot number : ℕ) → ItemKind
-load rd n k = Code (record { op = Load Ld; operands = Def rd ∷ OfSlot n ∷ Imm (pos 0) ∷ [] }) (Some k)
+load rd n k = Code (record { op = Load Ld; operands = Def rd ∷ OfSlot n ∷ Imm (pos 0) ∷ []; volatile = false }) (Some k)
 
 -- `DBG_PHI rs, number`
 abbrev pub phi : (rs number : ℕ) → ItemKind
@@ -55,12 +55,12 @@ mark v k = Mark v (Pair (record { number = k; operand = 0 }))
 
 -- `BEQ rs, $x0, %bb.N`
 abbrev pub branch : (rs block : ℕ) → ItemKind
-branch rs n = Code (record { op = Branch Beq; operands = Use rs ∷ Use 0 ∷ OfBlock n ∷ [] }) None
+branch rs n = Code (record { op = Branch Beq; operands = Use rs ∷ Use 0 ∷ OfBlock n ∷ []; volatile = false }) None
 
 -- `PseudoBR %bb.N`
 abbrev pub jump : (block : ℕ) → ItemKind
-jump n = Code (record { op = PseudoBr; operands = OfBlock n ∷ [] }) None
+jump n = Code (record { op = PseudoBr; operands = OfBlock n ∷ []; volatile = false }) None
 
 -- `PseudoRET implicit $x10`
 abbrev pub return : ItemKind
-return = Code (record { op = PseudoRet; operands = ImplicitUse 10 ∷ [] }) None
+return = Code (record { op = PseudoRet; operands = ImplicitUse 10 ∷ []; volatile = false }) None

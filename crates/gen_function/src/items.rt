@@ -51,7 +51,14 @@ pub fn add(alloc: Global, rd: Reg, rs: Reg, rt: Reg, k: DebugNumber) -> Result<I
     operands.push(Operand::Use(rs))?;
     operands.push(Operand::Use(rt))?;
     let op = Op::Registers(RegisterOp::Add);
-    Ok(ItemKind::Code(Instr { op, operands }, Some(k)))
+    Ok(ItemKind::Code(
+        Instr {
+            op,
+            operands,
+            volatile: false,
+        },
+        Some(k),
+    ))
 }
 
 /// `rd = COPY rs`.
@@ -62,7 +69,14 @@ pub fn copy(alloc: Global, rd: Reg, rs: Reg, k: Option<DebugNumber>) -> Result<I
     operands.push(Operand::Def(rd))?;
     operands.push(Operand::Use(rs))?;
     let op = Op::Copy;
-    Ok(ItemKind::Code(Instr { op, operands }, k))
+    Ok(ItemKind::Code(
+        Instr {
+            op,
+            operands,
+            volatile: false,
+        },
+        k,
+    ))
 }
 
 /// `rd = ADDI $x0, n`, with a debug instruction number.
@@ -75,7 +89,14 @@ pub fn constant(alloc: Global, rd: Reg, n: u32, k: DebugNumber) -> Result<ItemKi
     operands.push(Operand::Use(numbered(0)))?;
     operands.push(Operand::Imm(i64::from(n)))?;
     let op = Op::Immediate(ImmediateOp::Addi);
-    Ok(ItemKind::Code(Instr { op, operands }, Some(k)))
+    Ok(ItemKind::Code(
+        Instr {
+            op,
+            operands,
+            volatile: false,
+        },
+        Some(k),
+    ))
 }
 
 /// `SD rs, %stack.N, 0`.
@@ -87,7 +108,14 @@ pub fn store(alloc: Global, rs: Reg, slot: SlotId) -> Result<ItemKind, AllocErro
     operands.push(Operand::Slot(slot))?;
     operands.push(Operand::Imm(0))?;
     let op = Op::Store(StoreOp::Sd);
-    Ok(ItemKind::Code(Instr { op, operands }, None))
+    Ok(ItemKind::Code(
+        Instr {
+            op,
+            operands,
+            volatile: false,
+        },
+        None,
+    ))
 }
 
 /// `rd = LD %stack.N, 0`, with a debug instruction number.
@@ -99,7 +127,14 @@ pub fn load(alloc: Global, rd: Reg, slot: SlotId, k: DebugNumber) -> Result<Item
     operands.push(Operand::Slot(slot))?;
     operands.push(Operand::Imm(0))?;
     let op = Op::Load(LoadOp::Ld);
-    Ok(ItemKind::Code(Instr { op, operands }, Some(k)))
+    Ok(ItemKind::Code(
+        Instr {
+            op,
+            operands,
+            volatile: false,
+        },
+        Some(k),
+    ))
 }
 
 /// A DBG_INSTR_REF to operand 0 of a debug instruction number.
@@ -124,7 +159,14 @@ pub fn branch(alloc: Global, rs: Reg, target: BlockId) -> Result<ItemKind, Alloc
     operands.push(Operand::Use(numbered(0)))?;
     operands.push(Operand::Block(target))?;
     let op = Op::Branch(BranchOp::Beq);
-    Ok(ItemKind::Code(Instr { op, operands }, None))
+    Ok(ItemKind::Code(
+        Instr {
+            op,
+            operands,
+            volatile: false,
+        },
+        None,
+    ))
 }
 
 /// `PseudoBR %bb.N`.
@@ -134,7 +176,14 @@ pub fn jump(alloc: Global, target: BlockId) -> Result<ItemKind, AllocError>
     let mut operands = Operands::new(alloc);
     operands.push(Operand::Block(target))?;
     let op = Op::PseudoBr;
-    Ok(ItemKind::Code(Instr { op, operands }, None))
+    Ok(ItemKind::Code(
+        Instr {
+            op,
+            operands,
+            volatile: false,
+        },
+        None,
+    ))
 }
 
 /// `PseudoRET implicit $x10`.
@@ -144,5 +193,12 @@ pub fn return_result(alloc: Global) -> Result<ItemKind, AllocError>
     let mut operands = Operands::new(alloc);
     operands.push(Operand::ImplicitUse(numbered(RESULT)))?;
     let op = Op::PseudoRet;
-    Ok(ItemKind::Code(Instr { op, operands }, None))
+    Ok(ItemKind::Code(
+        Instr {
+            op,
+            operands,
+            volatile: false,
+        },
+        None,
+    ))
 }

@@ -24,10 +24,11 @@ use Rattle.mir_func.specs.Sound.{AllItems, HasForm}
 use Rattle.mir_func.specs.SoundFrame.{IsPhysical, HasPhysical}
 use Rattle.gen_function.specs.Generator.{generated}
 use Rattle.gen_function.proofs.Sound.{generated_is_sound}
-use Rattle.read_item.specs.Debug.{inlined_at_node}
-use Rattle.read_program.specs.declared.closing.Parsed.{Parsed}
-use Rattle.read_program.specs.declared.program.Program.{Program}
-use Rattle.read_program.specs.Limited.{IsLimited, KindIsLimited, LocIsLimited}
+use Rattle.read_proof.specs.read_item.Debug.{inlined_at_node}
+use Rattle.mir_exposure.specs.declared.exposure.Exposure.TheVariants.{Nothing}
+use Rattle.read_proof.specs.read_program.declared.closing.Parsed.{Parsed}
+use Rattle.read_proof.specs.read_program.declared.program.Program.{Program}
+use Rattle.read_proof.specs.read_program.Limited.{IsLimited, KindIsLimited, LocIsLimited}
 use Rattle.mir_printer.specs.Printable.{Declared, IsNumber, HasNumbers, IsAsDeclared, IsPrintable, IsPrintableKind, IsPrintableLoc}
 use Rattle.base_ids.specs.Limits.{MAX_NUMBER}
 use Rattle.read_proof.specs.Read.{declared_in, EntryIsLimited, IsReadFunction, IsReadProgram}
@@ -234,7 +235,7 @@ no_location n = ap (λ (o : Option Node). option_and_then as_location o) (get-fr
 pub generated_program_is_read : (number count : ℕ) → 1 ≤ count → count ≤ 512 → IsReadProgram (generated_program number count)
 generated_program_is_read number count some few =
     let meta = metadata_of [] in
-    let parsed : Parsed = record { func = generated number count; subs = [] } in
+    let parsed : Parsed = record { func = generated number count; subs = []; pool = []; exposure = Nothing } in
     record {
       few = lit≤ tt;
       functions = All-cons (λ (f : Parsed). IsReadFunction meta f.func) parsed [] (generated_is_read meta number count some few)

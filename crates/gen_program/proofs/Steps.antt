@@ -278,7 +278,7 @@ module _ (blocks : List Block) (mild : All (λ b. All (λ i. IsMild i.kind) b.it
 
   store_does : (j : ℕ) (c : Core) → HasRegisters c → do_item src (store 10 j) c ≡ Falls (stored_in j c)
   store_does j c h =
-      item_falls (record { op = Store Sd; operands = Use 10 ∷ OfSlot j ∷ Imm (pos 0) ∷ [] }) c (stored_in j c) (store_acts j c h)
+      item_falls (record { op = Store Sd; operands = Use 10 ∷ OfSlot j ∷ Imm (pos 0) ∷ []; volatile = false }) c (stored_in j c) (store_acts j c h)
 
   past_store : (s : State) → HasRegisters s.core → (st : IsStoring s) → IsMildState (record { pos = below s.pos; core = stored_in st.index s.core })
   past_store s regs st =

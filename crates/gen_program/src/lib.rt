@@ -7,5 +7,7 @@
 //!   read, so it can be compiled without being printed and parsed.
 #![tactic(auto)]
 
+pub use read_proof::read_program_crate as read_program_crate;
+
 pub mod laws;
 pub mod program;

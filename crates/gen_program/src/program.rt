@@ -5,11 +5,13 @@ ghost use Rattle.gen_program.specs.Program.{generated_program};
 ghost use Rattle.read_proof.specs.Read.{IsReadProgram};
 
 use gen_function::generator::generate;
+use mir_exposure::exposure::Exposure;
+use mir_pool::constant::Pool;
 use mir_substitution::substitutions::Substitutions;
 use read_lexer::line::Lines;
 use read_metadata::metadata::read_meta;
-use read_program::closing::Parsed;
-use read_program::program::{ParsedFunctions, Program};
+use read_proof::read_program_crate::closing::Parsed;
+use read_proof::read_program_crate::program::{ParsedFunctions, Program};
 use std::alloc::{AllocError, Global};
 
 /// The program whose one function is generated from a number below 65,537, with 1 to 512 blocks. It has no metadata and
@@ -24,6 +26,8 @@ pub fn generated_program(alloc: Global, number: u32, blocks: u32) -> Result<Prog
     let parsed = Parsed {
         func: generate(alloc, number, blocks)?,
         subs: Substitutions::new(alloc),
+        pool: Pool::new(alloc),
+        exposure: Exposure::Nothing,
     };
     let mut functions = ParsedFunctions::new(alloc);
     functions.push(parsed)?;

@@ -2,6 +2,7 @@
 use Rattle.std.proofs.Common.{◌≡◌, ◌∙◌, ℕ, ◌+◌, ◌*◌, ◌<◌, ◌≤◌, List, [], ◌∷◌, length, filter, count_by, All, refl, ap, arith}
 use Rattle.std.proofs.lemmas.List.Elements.{All-nil, All-cons, All-contains}
 use Rattle.std.proofs.lemmas.List.Sums.{length-filter, count_by-le-length}
+use Rattle.mir_exposure.specs.declared.exposure.Exposure.TheVariants.{Nothing}
 use Rattle.mir_func.specs.declared.block.Block.{Block}
 use Rattle.mir_func.specs.declared.object.Object.{Object}
 use Rattle.mir_func.specs.Function.{Function}
@@ -10,10 +11,9 @@ use Rattle.mir_func.specs.Sound.{IsSound}
 use Rattle.mir_func.specs.SoundFrame.{SAVED}
 use Rattle.gen_function.specs.Generator.{generated}
 use Rattle.frame_rule.specs.Rule.{is_set, saved_registers, own_size_of, reach_of}
-use Rattle.pass_trait.specs.Steps.{PassStep}
-use Rattle.read_program.specs.declared.closing.Parsed.{Parsed}
-use Rattle.compile_theorem.specs.Source.{SourceFunction}
-use Rattle.compile_program.specs.Program.{HasLargeFrame, steps_of}
+use Rattle.compile_program.specs.read_program.declared.closing.Parsed.{Parsed}
+use Rattle.compile_program.specs.compile_theorem.Source.{SourceFunction}
+use Rattle.compile_program.specs.Program.{ExposedSteps, HasLargeFrame, steps_of}
 use Rattle.gen_sizes.specs.Laws.{GeneratedFramesAreSmall}
 
 -- 13 registers may be saved
@@ -40,7 +40,7 @@ small_frame f sound none =
       by_parts size extent slots objects saved few kept own none = omega (arith, few, kept, own, none)
 
 -- so passes make no large frame of a function without objects
-pub small_after : (steps : List PassStep) (q : Parsed) → q.func.objects ≡ [] → HasLargeFrame steps (q ∷ []) → ⊥
+pub small_after : (steps : ExposedSteps) (q : Parsed) → q.func.objects ≡ [] → HasLargeFrame steps (q ∷ []) → ⊥
 small_after steps q bare large =
     let P : Parsed → Type 0 = λ x. x.func.objects ≡ [] in
     let among : large.function.func.objects ≡ [] = All-contains P (q ∷ []) large.function (All-cons P q [] bare (All-nil P)) large.among in
@@ -54,4 +54,4 @@ small_after steps q bare large =
 
 pub generated_frames_are_small : GeneratedFramesAreSmall
 generated_frames_are_small number count reserve passes large =
-    small_after (steps_of reserve passes) (record { func = generated number count; subs = [] }) refl large
+    small_after (steps_of reserve passes) (record { func = generated number count; subs = []; pool = []; exposure = Nothing }) refl large

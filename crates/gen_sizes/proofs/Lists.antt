@@ -30,7 +30,7 @@ use Rattle.dwarf_loclists.proofs.SpellingLemmas.{length-spelling}
 use Rattle.dwarf_line_table.proofs.LineRows.{entry_from, entry_at}
 use Rattle.location_of_variable.specs.Groups.{part_of}
 use Rattle.location_of_variable.specs.VariableLocation.{IsWantedLocation, bytes_of}
-use Rattle.location_ranges.specs.Lists.{point_of, AreRangesOf}
+use Rattle.compile_program.specs.location_ranges.Lists.{point_of, AreRangesOf}
 
 -- ---- how long an entry is
 

@@ -4,6 +4,7 @@ use Rattle.std.specs.Option.{option_and_then}
 use Rattle.std.specs.Cmp.{nat_cmp_total}
 use Rattle.std.specs.Cmp.Lexicographic.{nat_list_cmp_total}
 use Rattle.std.specs.FinMap.{get-from_entries}
+use Rattle.mir_exposure.specs.declared.exposure.Exposure.TheVariants.{Nothing}
 use Rattle.mir_func.specs.Function.{Function, FramedFunction}
 use Rattle.mir_func.specs.declared.location.Loc.TheVariants.{Absent}
 use Rattle.mir_func.specs.Sound.{AllItems}
@@ -15,7 +16,7 @@ use Rattle.frame_rule.specs.Rule.{framed_of}
 use Rattle.read_metadata.specs.Maps.{Maps}
 use Rattle.read_metadata.specs.Metadata.{metadata_of, variable_at, subprogram_at, file_of_scope_at, as_variable}
 use Rattle.read_metadata.specs.declared.node.Node.{Node}
-use Rattle.read_program.specs.declared.closing.Parsed.{Parsed}
+use Rattle.compile_program.specs.read_program.declared.closing.Parsed.{Parsed}
 use Rattle.dwarf_base.specs.Limits.{SECTION_LIMIT}
 use Rattle.dwarf_info.specs.Entries.{spelling as entries_spelling}
 use Rattle.dwarf_line.specs.Spelling.{spelling as rows_spelling}
@@ -24,11 +25,11 @@ use Rattle.dwarf_loclists.specs.Spelling.{spelling as lists_spelling}
 use Rattle.dwarf_line_table.specs.declared.source_and_code.SourceAndCode.{SourceAndCode}
 use Rattle.dwarf_line_table.specs.Files.{no_file, file_or}
 use Rattle.dwarf_line_table.specs.Program.{program_file, function_end, table_of}
-use Rattle.dwarf_unit.specs.Unit.{unit_of}
-use Rattle.dwarf_unit.specs.Variables.{variables_of_function}
+use Rattle.compile_program.specs.dwarf_unit.Unit.{unit_of}
+use Rattle.compile_program.specs.dwarf_unit.Variables.{variables_of_function}
 use Rattle.listing_text.specs.declared.output.ListedFunction.{ListedFunction}
-use Rattle.compile_theorem.specs.Compiled.{IsCompiledFunction, AreCompiled}
-use Rattle.compile_theorem.specs.Source.{SourceFunction, PassedFunction}
+use Rattle.compile_program.specs.compile_theorem.Compiled.{IsCompiledFunction, AreCompiled}
+use Rattle.compile_program.specs.compile_theorem.Source.{SourceFunction, PassedFunction}
 use Rattle.compile_program.specs.Program.{ArePassed, HaveCode, IsLarge, HasLargeSection, IsCompilable, source_of, names_of, steps_of}
 use Rattle.gen_function.specs.Generator.{generated}
 use Rattle.gen_program.specs.Program.{generated_program}
@@ -66,7 +67,7 @@ module _ (number count : ℕ) (some : 1 ≤ count) (few : count ≤ 512) where
   source = generated number count
 
   abbrev parsed : Parsed
-  parsed = record { func = source; subs = [] }
+  parsed = record { func = source; subs = []; pool = []; exposure = Nothing }
 
   abbrev meta : Maps
   meta = metadata_of []

@@ -20,8 +20,8 @@ use Rattle.dwarf_line_table.specs.declared.source_and_code.SourceAndCode.{Source
 use Rattle.dwarf_line_table.specs.declared.file.SourceFile.{SourceFile}
 use Rattle.dwarf_line_table.specs.Files.{no_file, first_uses}
 use Rattle.dwarf_line_table.specs.Program.{program_file}
-use Rattle.dwarf_unit.specs.Unit.{node_uses, type_uses, node_entry, variable_entry, variables_from, function_variables, function_entry, functions_from}
-use Rattle.dwarf_unit.specs.Unit.{program_types, base_entries, unit_of}
+use Rattle.compile_program.specs.dwarf_unit.Unit.{node_uses, type_uses, node_entry, variable_entry, variables_from, function_variables, function_entry, functions_from}
+use Rattle.compile_program.specs.dwarf_unit.Unit.{program_types, base_entries, unit_of}
 
 -- ---- parts
 

@@ -16,7 +16,7 @@ use Rattle.sem_mir.proofs.Assignments.{same_variable_refl}
 use Rattle.gen_function.specs.Items.{variable_of}
 use Rattle.gen_function.specs.Generator.{generated}
 use Rattle.dwarf_line_table.specs.Files.{with_new, first_uses}
-use Rattle.dwarf_unit.specs.Variables.{marked, marks_of, variables_of_function}
+use Rattle.compile_program.specs.dwarf_unit.Variables.{marked, marks_of, variables_of_function}
 use Rattle.gen_program.proofs.Made.{IsMade, adds, copies, gives, sets, stores, loads, phis, marks, branches, jumps, returns}
 use Rattle.gen_program.proofs.Steps.{of_made}
 

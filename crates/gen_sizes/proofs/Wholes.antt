@@ -19,19 +19,19 @@ use Rattle.emit_code.specs.Laid.{StandFrom}
 use Rattle.emit_code.specs.Rule.{Layout, entries_of, words_of}
 use Rattle.emit_code.proofs.Stand.{stands, words_fill, words_few}
 use Rattle.frame_rule.specs.Rule.{renamed_kind, framed_of, framed_blocks}
-use Rattle.machine_steps_proof.proofs.Points.{of_item}
-use Rattle.pass_manager.specs.Shown.{HasMark}
+use Rattle.compile_program.proofs.machine_steps_proof.Points.{of_item}
+use Rattle.compile_program.specs.pass_manager.Shown.{HasMark}
 use Rattle.read_metadata.specs.Maps.{Maps}
 use Rattle.location_of_variable.specs.Groups.{part_of}
 use Rattle.location_of_variable.proofs.Locating.{and_false}
 use Rattle.dwarf_loclists.specs.declared.range.Range.{Range}
 use Rattle.dwarf_loclists.specs.Spelling.{spelling}
-use Rattle.dwarf_unit.specs.Variables.{variables_of_function}
+use Rattle.compile_program.specs.dwarf_unit.Variables.{variables_of_function}
 use Rattle.listing_text.specs.declared.output.ListedFunction.{ListedFunction}
-use Rattle.compile_theorem.specs.Source.{SourceFunction, PassedFunction}
-use Rattle.compile_theorem.specs.Compiled.{IsCompiledFunction}
-use Rattle.compile_theorem.proofs.Framing.{framed_all}
-use Rattle.compile_theorem.proofs.Variables.{MarksOther, nowhere}
+use Rattle.compile_program.specs.compile_theorem.Source.{SourceFunction, PassedFunction}
+use Rattle.compile_program.specs.compile_theorem.Compiled.{IsCompiledFunction}
+use Rattle.compile_program.proofs.compile_theorem.Framing.{framed_all}
+use Rattle.compile_program.proofs.compile_theorem.Variables.{MarksOther, nowhere}
 use Rattle.compile_program.specs.Program.{IsCompilable}
 use Rattle.compile_program.proofs.AfterPasses.{in_order, in_blocks}
 use Rattle.compile_program.proofs.Located.{all_each}

@@ -6,8 +6,8 @@ use Rattle.read_metadata.specs.Maps.{Maps}
 use Rattle.mir_func.specs.declared.block.Block.{Block}
 use Rattle.mir_func.specs.declared.location.Loc.{Loc}
 use Rattle.mir_func.specs.Positions.{position_of}
-use Rattle.emit_code.specs.declared.code.EncodedInstruction.{EncodedInstruction}
-use Rattle.emit_code.specs.Laid.{StandFrom}
+use Rattle.dwarf_line_table.specs.emit_code.declared.code.EncodedInstruction.{EncodedInstruction}
+use Rattle.dwarf_line_table.specs.emit_code.Laid.{StandFrom}
 use Rattle.dwarf_line_table.specs.SourcePosition.{loc_of}
 use Rattle.dwarf_line_table.specs.declared.source_and_code.SourceAndCode.{SourceAndCode}
 use Rattle.dwarf_line_table.proofs.Split.{split_at}

@@ -10,6 +10,8 @@
 //!   was inlined through the instance's call. Laws, each the contract of a function that does nothing.
 #![tactic(auto)]
 
+pub use dwarf_line_table as dwarf_line_table_crate;
+
 pub mod instance;
 pub mod instances;
 pub mod laws;

@@ -6,7 +6,7 @@ use Rattle.std.specs.List.{list_any, flat_map}
 use Rattle.std.proofs.lemmas.Bool.{true≢false, eq-eqb, ne_eqb, or_parts}
 use Rattle.std.proofs.lemmas.List.Folds.{list_any-append}
 use Rattle.read_metadata.specs.Maps.{Maps}
-use Rattle.dwarf_line_table.specs.Files.{with_new, first_uses}
+use Rattle.inline_instances.specs.dwarf_line_table.Files.{with_new, first_uses}
 use Rattle.dwarf_rnglists.specs.declared.range.AddressRange.{AddressRange}
 use Rattle.inline_instances.specs.declared.instance.Instance.{Instance}
 use Rattle.inline_instances.proofs.Ways.{none_is_some, some_is_some}

@@ -1,10 +1,10 @@
 -- Laws of the inlined subroutines of a function.
 use Rattle.std.specs.Prelude.{◌↔◌, ℕ, ◌+◌, ◌<◌, ◌≤◌, List, All, Contains}
 use Rattle.read_metadata.specs.Maps.{Maps}
-use Rattle.emit_code.specs.declared.code.EncodedInstruction.{EncodedInstruction}
-use Rattle.emit_code.specs.Laid.{StandFrom}
-use Rattle.dwarf_line_table.specs.declared.source_and_code.SourceAndCode.{SourceAndCode}
-use Rattle.dwarf_line_table.specs.Program.{function_end}
+use Rattle.inline_instances.specs.emit_code.declared.code.EncodedInstruction.{EncodedInstruction}
+use Rattle.inline_instances.specs.emit_code.Laid.{StandFrom}
+use Rattle.inline_instances.specs.dwarf_line_table.declared.source_and_code.SourceAndCode.{SourceAndCode}
+use Rattle.inline_instances.specs.dwarf_line_table.Program.{function_end}
 use Rattle.dwarf_rnglists.specs.Ranges.{Ascend, Cover}
 use Rattle.inline_instances.specs.Laws.{IsInlinedThrough}
 use Rattle.inline_subroutines.specs.declared.subroutine.InlinedSubroutine.{InlinedSubroutine}

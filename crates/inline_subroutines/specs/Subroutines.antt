@@ -2,7 +2,7 @@
 use Rattle.std.specs.Prelude.{◌≡◌, ℕ, ◌<◌, false, List, [], ◌∷◌, map, Some, IfSome, nat_eq, slice_get}
 use Rattle.std.specs.List.{list_any}
 use Rattle.read_metadata.specs.Maps.{Maps}
-use Rattle.dwarf_line_table.specs.declared.source_and_code.SourceAndCode.{SourceAndCode}
+use Rattle.inline_instances.specs.dwarf_line_table.declared.source_and_code.SourceAndCode.{SourceAndCode}
 use Rattle.dwarf_rnglists.specs.declared.range.AddressRange.{AddressRange}
 use Rattle.inline_instances.specs.declared.instance.Instance.{Instance}
 use Rattle.inline_instances.specs.declared.instance.InlinedCode.{InlinedCode}

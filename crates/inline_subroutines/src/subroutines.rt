@@ -6,8 +6,8 @@ ghost use Rattle.inline_subroutines.specs.steps.Known.{AreSubprograms};
 
 use crate::subprogram::Subprograms;
 use crate::subroutine::{InlinedSubroutine, InlinedSubroutines};
-use dwarf_line_table::source_and_code::SourceAndCode;
 use dwarf_rnglists::range::AddressRanges;
+use inline_instances::dwarf_line_table_crate::source_and_code::SourceAndCode;
 use inline_instances::instance::Instance;
 use inline_instances::instances::inlined_code;
 use read_metadata::metadata::Metadata;

@@ -13,12 +13,13 @@ use Rattle.rv64_instr.specs.declared.op.LoadOp.{LoadOp}
 use Rattle.rv64_instr.specs.declared.op.StoreOp.{StoreOp}
 use Rattle.rv64_instr.specs.declared.operand.Operand.{Operand}
 use Rattle.rv64_instr.specs.declared.operand.Operand.TheVariants.{Def, Use, ImplicitDef, ImplicitUse, Imm, Slot, Object, Part, Block, Symbol, Mask}
+use Rattle.rv64_instr.specs.declared.operand.Operand.TheVariants.{GlobalRegisters}
 use Rattle.rv64_instr.specs.declared.symbol.Half.TheVariants.{Upper, Lower}
 use Rattle.rv64_instr.specs.Arithmetic.{load_width, store_width}
 use Rattle.rv64_instr.specs.Form.{is_implicit, is_argument, is_result, is_addi, is_immediate, has_12_bits, moves_slot, is_within, has_form}
 use Rattle.rv64_instr.specs.Form.{fits_registers, fits_immediate, fits_upper, fits_branch, fits_load, fits_store, fits_copy, fits_jump}
-use Rattle.rv64_instr.specs.Form.{fits_call, is_call_register, is_held_tail_use, is_held_tail_register, fits_held_call, fits_tail, fits_held_tail}
-use Rattle.rv64_instr.proofs.Tails.{gone_calls, held_gone_calls, held_tail_uses}
+use Rattle.rv64_instr.specs.Form.{fits_call, is_held_tail_use, is_held_tail_register, fits_held_call, fits_held_gone, fits_tail, fits_held_tail}
+use Rattle.rv64_instr.proofs.Tails.{gone_calls, held_gone_arguments, held_tail_uses}
 use Rattle.mir_func.specs.Function.{FramedFunction}
 use Rattle.mir_func.specs.Objects.{offset_of}
 use Rattle.mir_func.specs.SoundFrame.{own_size}
@@ -133,6 +134,7 @@ module _ (f : FramedFunction) where
 
   behind_result : (x : Operand) (o : Operand) (os : List Operand) → is_result o ≡ true → by_pointer f (x ∷ o ∷ os) ≡ x ∷ o ∷ os
   behind_result x (ImplicitUse r) os is = refl
+  behind_result x GlobalRegisters os is = refl
   behind_result x o os is = absurd cc
 
   results_stay : (os : List Operand) → list_all is_result os ≡ true → by_pointer f os ≡ os
@@ -144,13 +146,18 @@ module _ (f : FramedFunction) where
   behind_tail : (x : Operand) (os : List Operand) → list_all is_held_tail_use os ≡ true → by_pointer f (x ∷ os) ≡ x ∷ os
   behind_tail x [] all = refl
   behind_tail x (ImplicitUse r ∷ os) all = refl
+  behind_tail x (GlobalRegisters ∷ os) all = refl
   behind_tail x (o ∷ os) all = absurd cc
 
   held_call_declared : (os : List Operand) → fits_held_call os ≡ true → All P (by_pointer f os)
-  held_call_declared (ImplicitUse r ∷ Mask ∷ rest) form =
-      All-cons P (ImplicitUse r) (Mask ∷ rest) tt
-      (All-cons P Mask rest tt (each is_argument argument_apart rest (and_parts (is_call_register r) (list_all is_argument rest) form).1))
+  held_call_declared (Use r ∷ Mask ∷ rest) form =
+      All-cons P (Use r) (Mask ∷ rest) tt (All-cons P Mask rest tt (each is_argument argument_apart rest form))
   held_call_declared os form = absurd cc
+
+  held_gone_declared : (os : List Operand) → fits_held_gone os ≡ true → All P (by_pointer f os)
+  held_gone_declared (ImplicitUse r ∷ Mask ∷ rest) form =
+      All-cons P (ImplicitUse r) (Mask ∷ rest) tt (All-cons P Mask rest tt (each is_argument argument_apart rest (held_gone_arguments r rest form)))
+  held_gone_declared os form = absurd cc
 
   tail_declared : (os : List Operand) → fits_tail os ≡ true → All P (by_pointer f os)
   tail_declared (Symbol name ∷ rest) form =
@@ -178,5 +185,5 @@ module _ (f : FramedFunction) where
   operands_declared PseudoTail os form = tail_declared os form
   operands_declared PseudoTailIndirect os form = held_tail_declared os form
   operands_declared NoReturnCall os form = call_declared os (gone_calls os form)
-  operands_declared NoReturnCallIndirect os form = held_call_declared os (held_gone_calls os form)
+  operands_declared NoReturnCallIndirect os form = held_gone_declared os form
   operands_declared PseudoRet os form = subst (All P) (sym (results_stay os form)) (each is_result result_apart os form)

@@ -5,3 +5,4 @@ pub mod Walked
 pub mod Low
 pub mod Declared
 pub mod Printed
+pub use Rattle.listing_meaning.proofs.machine_steps_proof as machine_steps_proof

@@ -18,6 +18,7 @@ use Rattle.rv64_instr.specs.declared.op.LoadOp.{LoadOp}
 use Rattle.rv64_instr.specs.declared.op.StoreOp.{StoreOp}
 use Rattle.rv64_instr.specs.declared.operand.Operand.{Operand}
 use Rattle.rv64_instr.specs.declared.operand.Operand.TheVariants.{Def, Use, ImplicitDef, ImplicitUse, Imm, Slot, Object as OfObject, Part, Block, Symbol, Mask}
+use Rattle.rv64_instr.specs.declared.operand.Operand.TheVariants.{GlobalRegisters}
 use Rattle.rv64_instr.specs.declared.symbol.Half.TheVariants.{Upper, Lower}
 use Rattle.rv64_instr.specs.Arithmetic.{word, load_width, store_width}
 use Rattle.rv64_instr.specs.Form.{has_12_bits, is_implicit, is_result, moves_slot, is_addi, is_immediate, has_form}
@@ -156,10 +157,11 @@ module _ (f : FramedFunction) (framed : IsFramed f) where
   behind_tail : (x : Operand) (os : List Operand) → list_all is_held_tail_use os ≡ true → by_pointer f (x ∷ os) ≡ x ∷ os
   behind_tail x [] all = refl
   behind_tail x (ImplicitUse r ∷ os) all = refl
+  behind_tail x (GlobalRegisters ∷ os) all = refl
   behind_tail x (o ∷ os) all = absurd cc
 
   held_call_formed : (os : List Operand) → fits_held_call os ≡ true → fits_held_call (by_pointer f os) ≡ true
-  held_call_formed (ImplicitUse r ∷ Mask ∷ rest) form = form
+  held_call_formed (Use r ∷ Mask ∷ rest) form = form
   held_call_formed os form = absurd cc
 
   gone_formed : (os : List Operand) → fits_gone os ≡ true → fits_gone (by_pointer f os) ≡ true

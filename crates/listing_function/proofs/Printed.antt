@@ -23,8 +23,8 @@ use Rattle.rv64_instr.specs.declared.op.LoadOp.{LoadOp}
 use Rattle.rv64_instr.specs.declared.op.StoreOp.{StoreOp}
 use Rattle.rv64_instr.specs.Form.{is_implicit, is_result, is_within, has_12_bits, is_immediate, has_form, IsSigned}
 use Rattle.rv64_instr.specs.Form.{fits_registers, fits_immediate, fits_upper, fits_branch, fits_load, fits_store, fits_copy, fits_jump}
-use Rattle.rv64_instr.specs.Form.{fits_call, is_held_tail_use, is_held_tail_register, fits_held_call, fits_tail, fits_held_tail}
-use Rattle.rv64_instr.proofs.Tails.{gone_calls, held_gone_calls}
+use Rattle.rv64_instr.specs.Form.{fits_call, is_held_tail_use, is_held_tail_register, fits_held_call, fits_held_gone, fits_tail, fits_held_tail}
+use Rattle.rv64_instr.proofs.Tails.{gone_calls}
 use Rattle.mir_func.specs.declared.block.Block.{Block}
 use Rattle.mir_func.specs.declared.item.Item.{Item}
 use Rattle.mir_func.specs.declared.item.ItemKind.{ItemKind}
@@ -123,8 +123,12 @@ module _ (b : ℕ) (x : ℤ) (rest : List Operand) where
       let none : false ≡ true = (and_parts (is_result r) (list_all is_result (Use b ∷ Imm x ∷ rest)) form).1 in absurd cc
 
   third_held_call : (r : Operand) → fits_held_call (r ∷ Use b ∷ Imm x ∷ rest) ≡ true → IsSigned x
-  third_held_call (ImplicitUse n) form = absurd cc
+  third_held_call (Use n) form = absurd cc
   third_held_call r form = absurd cc
+
+  third_held_gone : (r : Operand) → fits_held_gone (r ∷ Use b ∷ Imm x ∷ rest) ≡ true → IsSigned x
+  third_held_gone (ImplicitUse n) form = absurd cc
+  third_held_gone r form = absurd cc
 
   third_tail : (r : Operand) → fits_tail (r ∷ Use b ∷ Imm x ∷ rest) ≡ true → IsSigned x
   third_tail (Symbol name) form = absurd cc
@@ -150,7 +154,7 @@ module _ (b : ℕ) (x : ℤ) (rest : List Operand) where
   third PseudoTail r form = third_tail r form
   third PseudoTailIndirect r form = third_held_tail r form
   third NoReturnCall r form = third_call r (gone_calls (r ∷ Use b ∷ Imm x ∷ rest) form)
-  third NoReturnCallIndirect r form = third_held_call r (held_gone_calls (r ∷ Use b ∷ Imm x ∷ rest) form)
+  third NoReturnCallIndirect r form = third_held_gone r form
 
 implicits_printable : (os : List Operand) → All HasNumbers os → All IsPrintableImplicit (implicits os)
 implicits_printable [] all = All-nil IsPrintableImplicit

@@ -117,6 +117,7 @@ pub(crate) fn jump(
     let jump = Instr {
         op: Op::PseudoBr,
         operands,
+        volatile: false,
     };
     Ok(Line::Item(ItemLine {
         address: Some(address),
@@ -152,6 +153,7 @@ fn push_implicit(made: &mut Implicits, operand: &Operand) -> Result<(), AllocErr
         | Operand::Object(_)
         | Operand::Part(_, _)
         | Operand::Outgoing(_)
+        | Operand::GlobalRegisters
         | Operand::Block(_)
         | Operand::Symbol(_)
         | Operand::Mask => Ok(()),

@@ -30,7 +30,10 @@ pub(crate) fn listed(
         (λ x. x ≡ listed f i.now)) }
 {
     let operands = lowered(alloc, offsets, i.operands.as_slice())?;
-    Ok(Instr::new(i.op, operands))
+    match Instr::new(i.op, operands) {
+        Some(made) => Ok(Some(made.with_volatile(i.is_volatile_load()))),
+        None => Ok(None),
+    }
 }
 
 fn lowered(

@@ -16,9 +16,9 @@ use Rattle.rv64_instr.specs.declared.operand.Operand.TheVariants.{Def, Use, Imm,
 use Rattle.rv64_instr.specs.declared.symbol.Half.TheVariants.{Upper, Lower}
 use Rattle.rv64_instr.specs.Arithmetic.{word}
 use Rattle.rv64_instr.specs.Form.{is_addi, is_immediate, is_implicit, fits_registers, fits_immediate, fits_upper, fits_branch, fits_load, fits_store, fits_copy}
-use Rattle.rv64_instr.specs.Form.{fits_jump, fits_call, fits_gone, has_form, fits_tail}
+use Rattle.rv64_instr.specs.Form.{fits_jump, fits_call, fits_held_call, fits_gone, has_form, fits_tail}
 use Rattle.rv64_instr.specs.Row.{move_row, add_row, immediate_row, object_row, registers_row, number_row, upper_row, branch_row, load_row, store_row}
-use Rattle.rv64_instr.specs.Row.{copy_row, jump_row, call_row, row_by, implicit_uses, outgoing_words, held_call, held_tail, held_gone, tail_row, gone_row}
+use Rattle.rv64_instr.specs.Row.{copy_row, jump_row, call_row, row_by, implicit_uses, held_call_row, held_tail, held_gone, tail_row, gone_row}
 use Rattle.emit_code.specs.Rule.{Form, OneWord, CallSite, LongBranch, row_form}
 
 pub data FormView (op : Op) (os : List Operand) : Form → Type 0 where
@@ -100,9 +100,9 @@ gone : (far : Bool) (os : List Operand) → fits_gone os ≡ true → FormView N
 gone far (Symbol name ∷ Mask ∷ rest) form = call name (Mask ∷ rest) refl (inr (inr refl))
 gone far os form = absurd cc
 
-held_call_view : (op : Op) (os : List Operand) (far : Bool) (xs outgoing : List ℕ) → FormView op os (row_form far (held_call xs outgoing))
-held_call_view op os far [] outgoing = one
-held_call_view op os far (r ∷ xs) outgoing = one
+held_call_view : (far : Bool) (os : List Operand) → fits_held_call os ≡ true → FormView PseudoCallIndirect os (row_form far (held_call_row os))
+held_call_view far (Use r ∷ Mask ∷ rest) form = one
+held_call_view far os form = absurd cc
 
 held_tail_view : (op : Op) (os : List Operand) (far : Bool) (xs : List ℕ) → FormView op os (row_form far (held_tail xs))
 held_tail_view op os far [] = one
@@ -124,7 +124,7 @@ viewed far Copy os form = copy far os form
 viewed far PseudoBr os form = jump far os form
 viewed far PseudoCall os form = calls far os form
 viewed far PseudoRet os form = one
-viewed far PseudoCallIndirect os form = held_call_view PseudoCallIndirect os far (implicit_uses os) (outgoing_words os)
+viewed far PseudoCallIndirect os form = held_call_view far os form
 viewed far PseudoTail os form = tails far os form
 viewed far PseudoTailIndirect os form = held_tail_view PseudoTailIndirect os far (implicit_uses os)
 viewed far NoReturnCall os form = gone far os form

@@ -1,5 +1,5 @@
 -- The image of a listing: line by line it is that of the layout.
-use Rattle.std.proofs.Common.{◌≡◌, ℕ, suc, ◌+◌, max, pos, true, List, [], ◌∷◌, ◌++◌, Option, Some, None, refl, ap, sym, ◌∙◌, subst}
+use Rattle.std.proofs.Common.{◌≡◌, ℕ, suc, ◌+◌, max, pos, true, false, List, [], ◌∷◌, ◌++◌, Option, Some, None, refl, ap, sym, ◌∙◌, subst}
 use Rattle.std.specs.Prelude.{map, All}
 use Rattle.std.specs.List.{flat_map, list_all}
 use Rattle.std.proofs.lemmas.Bool.{and_parts}
@@ -22,7 +22,7 @@ use Rattle.mir_func.specs.declared.object.Object.{Object}
 use Rattle.mir_func.specs.Objects.{area_of, end_from, own_end, up_to, HasNoFixed}
 use Rattle.mir_func.proofs.Ends.{no_fixed_area}
 use Rattle.mir_func.specs.Sound.{AllItems, HasForm}
-use Rattle.sem_machine.specs.Image.{CodeLine}
+use Rattle.machine_steps_proof.specs.sem_machine.Image.{CodeLine}
 use Rattle.emit_code.specs.LongBranch.{jump_to}
 use Rattle.emit_code.specs.Listed.{Line as LaidLine, form_lines as laid_form, kind_lines as laid_kind, lines_at as laid_lines}
 use Rattle.emit_code.specs.Rule.{Layout, Site, Form, LongBranch, form_of, address_in, added_before, sites_in, sites_from}
@@ -54,14 +54,14 @@ implicits_stay (o ∷ os) all =
 module _ (l : Layout) where
   abbrev LongAlike : (a : ℕ) (i : Item) (k : Option ℕ) (n : ℕ) → Op → List Operand → Type 0
   LongAlike a i k n op os = flat_map code_lines (branch_skip a i.origin op os ++ line_at (Some (a + 4)) i (Code (jump_to n) k) ∷ []) ≡
-      map code_line (laid_form l.framed a i.origin (record { op = op; operands = os }) (LongBranch n))
+      map code_line (laid_form l.framed a i.origin (record { op = op; operands = os; volatile = false }) (LongBranch n))
 
   long_alike : (a : ℕ) (i : Item) (k : Option ℕ) (b : BranchOp) (x y n m : ℕ) (rest : List Operand) → list_all is_implicit rest ≡ true →
       LongAlike a i k m (Branch b) (Use x ∷ Use y ∷ OfBlock n ∷ rest)
   long_alike a i k b x y n m rest all = ap (λ (os : List Operand). record {
     address = a;
     origin = added_before i.origin;
-    instruction = record { op = Branch (inverse b); operands = Use x ∷ Use y ∷ Imm (pos 8) ∷ os };
+    instruction = record { op = Branch (inverse b); operands = Use x ∷ Use y ∷ Imm (pos 8) ∷ os; volatile = false };
   } ∷ record { address = a + 4; origin = i.origin; instruction = jump_to m } ∷ []) (implicits_stay rest all)
 
   form_alike : (a : ℕ) (i : Item) (c : Instruction) (k : Option ℕ) (f : Form) → FormView c.op c.operands f →

@@ -8,3 +8,5 @@ pub mod Sizes
 pub mod Lying
 pub mod Places
 pub mod Settling
+pub use Rattle.machine_steps_proof.proofs as machine_steps_proof
+pub use Rattle.machine_steps_proof.proofs.sem_value_ids as sem_value_ids

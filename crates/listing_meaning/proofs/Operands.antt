@@ -19,14 +19,15 @@ use Rattle.rv64_instr.specs.declared.op.StoreOp.{StoreOp}
 use Rattle.rv64_instr.specs.declared.op.StoreOp.TheVariants.{Sd, Sb, Sh, Sw}
 use Rattle.rv64_instr.specs.declared.operand.Operand.{Operand}
 use Rattle.rv64_instr.specs.declared.operand.Operand.TheVariants.{Def, Use, ImplicitDef, ImplicitUse, Imm, Slot, Object as OfObject, Part, Block, Symbol, Mask}
+use Rattle.rv64_instr.specs.declared.operand.Operand.TheVariants.{GlobalRegisters}
 use Rattle.rv64_instr.specs.declared.symbol.Half.TheVariants.{Upper, Lower}
 use Rattle.rv64_instr.specs.declared.symbol.LinkedAddress.{LinkedAddress}
 use Rattle.rv64_instr.specs.declared.symbol.Half.{Half}
 use Rattle.rv64_instr.specs.Arithmetic.{word, load_width, store_width}
 use Rattle.rv64_instr.specs.Form.{is_within, has_12_bits, is_implicit, is_result, moves_slot, is_addi, is_immediate, has_form}
 use Rattle.rv64_instr.specs.Form.{fits_registers, fits_immediate, fits_upper, fits_branch, fits_load, fits_store, fits_copy, fits_jump}
-use Rattle.rv64_instr.specs.Form.{fits_call, is_held_tail_use, is_held_tail_register, fits_held_call, fits_tail, fits_held_tail}
-use Rattle.rv64_instr.proofs.Tails.{gone_calls, held_gone_calls, held_tail_uses}
+use Rattle.rv64_instr.specs.Form.{fits_call, is_held_tail_use, is_held_tail_register, fits_held_call, fits_held_gone, fits_tail, fits_held_tail}
+use Rattle.rv64_instr.proofs.Tails.{gone_calls, held_tail_uses}
 use Rattle.rv64_instr.specs.Row.{row_by, load_row, store_row, number_row}
 use Rattle.mir_func.specs.declared.object.Object.{Object}
 use Rattle.mir_func.specs.Function.{FramedFunction}
@@ -292,6 +293,7 @@ module _ (f : FramedFunction) (framed : IsFramed f) where
 
   behind_result : (x : Operand) (o : Operand) (os : List Operand) → is_result o ≡ true → by_pointer f (x ∷ o ∷ os) ≡ x ∷ o ∷ os
   behind_result x (ImplicitUse r) os is = refl
+  behind_result x GlobalRegisters os is = refl
   behind_result x o os is = absurd cc
 
   pub results_stay : (os : List Operand) → list_all is_result os ≡ true → by_pointer f os ≡ os
@@ -303,11 +305,16 @@ module _ (f : FramedFunction) (framed : IsFramed f) where
   behind_tail : (x : Operand) (os : List Operand) → list_all is_held_tail_use os ≡ true → by_pointer f (x ∷ os) ≡ x ∷ os
   behind_tail x [] all = refl
   behind_tail x (ImplicitUse r ∷ os) all = refl
+  behind_tail x (GlobalRegisters ∷ os) all = refl
   behind_tail x (o ∷ os) all = absurd cc
 
   held_call_stays : (os : List Operand) → fits_held_call os ≡ true → by_pointer f os ≡ os
-  held_call_stays (ImplicitUse r ∷ Mask ∷ rest) form = refl
+  held_call_stays (Use r ∷ Mask ∷ rest) form = refl
   held_call_stays os form = absurd cc
+
+  held_gone_stays : (os : List Operand) → fits_held_gone os ≡ true → by_pointer f os ≡ os
+  held_gone_stays (ImplicitUse r ∷ Mask ∷ rest) form = refl
+  held_gone_stays os form = absurd cc
 
   tail_stays : (os : List Operand) → fits_tail os ≡ true → by_pointer f os ≡ os
   tail_stays (Symbol name ∷ rest) form = behind_tail (Symbol name) rest (held_tail_uses rest form)
@@ -334,7 +341,7 @@ module _ (f : FramedFunction) (framed : IsFramed f) where
   operands_back PseudoTail os form steady slots objects = tail_stays os form
   operands_back PseudoTailIndirect os form steady slots objects = held_tail_stays os form
   operands_back NoReturnCall os form steady slots objects = call_stays os (gone_calls os form)
-  operands_back NoReturnCallIndirect os form steady slots objects = held_call_stays os (held_gone_calls os form)
+  operands_back NoReturnCallIndirect os form steady slots objects = held_gone_stays os form
 
   -- ---- where an access begins at a byte that its object alone has
 

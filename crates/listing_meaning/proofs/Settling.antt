@@ -18,8 +18,10 @@ use Rattle.listing_meaning.proofs.Framing.{function_shown}
 
 module _ (f : FramedFunction) (framed : IsFramed f) where
   kind_same : (kind : ItemKind) → HasForm kind → ObjectsIn f.objects kind → StaysInside f.objects kind → settled_kind f kind ≡ kind
-  kind_same (Code c k) form objects inside = ap (λ (os : List Operand). Code (record { op = c.op; operands = os }) k)
-      (operands_same f framed c.op c.operands form objects inside)
+  kind_same (Code c k) form objects inside =
+      let operands = operands_same f framed c.op c.operands form objects inside.0 in
+      let volatile = inside.1 in
+      λ j. Code (record { op = c.op; operands = operands j; volatile = volatile j }) k
   kind_same (Mark v m) form objects inside = refl
   kind_same (Phi p k) form objects inside = refl
 

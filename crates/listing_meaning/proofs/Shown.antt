@@ -1,6 +1,6 @@
 -- The lines of a listing show the items that were laid out, line by line and block by block.
 use Rattle.std.proofs.Common.{◌≡◌, ℕ, suc, ◌+◌, true, List, [], ◌∷◌, ◌++◌, Option, Some, None, refl, ap, sym, ◌∙◌}
-use Rattle.std.proofs.Common.{subst}
+use Rattle.std.proofs.Common.{Bool, false, subst}
 use Rattle.std.specs.Prelude.{map, All}
 use Rattle.std.specs.List.{flat_map, list_all}
 use Rattle.std.proofs.lemmas.List.Elements.{All-head, All-tail}
@@ -10,7 +10,7 @@ use Rattle.rv64_instr.specs.declared.op.BranchOp.{BranchOp}
 use Rattle.rv64_instr.specs.declared.op.BranchOp.TheVariants.{Beq}
 use Rattle.rv64_instr.specs.declared.operand.Operand.{Operand}
 use Rattle.rv64_instr.specs.declared.operand.Operand.TheVariants.{Use, Block as OfBlock}
-use Rattle.rv64_instr.specs.Instruction.{Instruction}
+use Rattle.rv64_instr.specs.Instruction.{Instruction, is_volatile_load}
 use Rattle.rv64_instr.specs.Form.{is_implicit}
 use Rattle.rv64_instr.specs.Inverse.{inverse}
 use Rattle.mir_func.specs.declared.block.Block.{Block}
@@ -52,21 +52,21 @@ module _ (l : Layout) (framed : IsFramed l.framed) where
   raised_back : (c : Instruction) (k : Option ℕ) → HasForm (Code c k) → IsSteady c.op c.operands → SlotsIn (slot_offsets l.framed) (Code c k) →
       ObjectsIn l.framed.objects (Code c k) → raised (frame_of l.framed) (Code (listed l.framed c) k) ≡ settled_kind l.framed (Code c k)
   raised_back c k form steady slots objects =
-      ap (λ (os : List Operand). Code (record { op = c.op; operands = os }) k) (operands_back l.framed framed c.op c.operands form steady slots.0 objects)
+      ap (λ (os : List Operand). Code (record { op = c.op; operands = os; volatile = is_volatile_load c }) k) (operands_back l.framed framed c.op c.operands form steady slots.0 objects)
 
   -- ---- one item
 
-  abbrev LongShown : (a : ℕ) (i : Item) (k : Option ℕ) (n : ℕ) (rest : List Line) → Op → List Operand → Type 0
-  LongShown a i k n rest op os = items_shown (frame_of l.framed) None (branch_skip a i.origin op os ++ line_at (Some (a + 4)) i (Code
+  abbrev LongShown : (a : ℕ) (i : Item) (k : Option ℕ) (n : ℕ) (rest : List Line) (volatile : Bool) → Op → List Operand → Type 0
+  LongShown a i k n rest volatile op os = items_shown (frame_of l.framed) None (branch_skip a i.origin op os ++ line_at (Some (a + 4)) i (Code
       (jump_to n) k) ∷ [] ++ rest) ≡
-      record i { kind = settled_kind l.framed (Code (record { op = op; operands = os }) k) } ∷ items_shown (frame_of l.framed) None rest
+      record i { kind = settled_kind l.framed (Code (record { op = op; operands = os; volatile = volatile }) k) } ∷ items_shown (frame_of l.framed) None rest
 
-  long_shown : (a : ℕ) (i : Item) (k : Option ℕ) (rest : List Line) (b : BranchOp) (x y n : ℕ) (os : List Operand) → list_all is_implicit os ≡ true →
-      LongShown a i k n rest (Branch b) (Use x ∷ Use y ∷ OfBlock n ∷ os)
-  long_shown a i k rest b x y n os all =
-      ap (λ (o : BranchOp). record i { kind = Code (record { op = Branch o; operands = Use x ∷ Use y ∷ OfBlock n ∷ map operand_of (implicits os) }) k } ∷
+  long_shown : (a : ℕ) (i : Item) (k : Option ℕ) (rest : List Line) (volatile : Bool) (b : BranchOp) (x y n : ℕ) (os : List Operand) → list_all is_implicit os ≡ true →
+      LongShown a i k n rest volatile (Branch b) (Use x ∷ Use y ∷ OfBlock n ∷ os)
+  long_shown a i k rest volatile b x y n os all =
+      ap (λ (o : BranchOp). record i { kind = Code (record { op = Branch o; operands = Use x ∷ Use y ∷ OfBlock n ∷ map operand_of (implicits os); volatile = false }) k } ∷
       items_shown (frame_of l.framed) None rest) (twice b) ∙
-      ap (λ (ps : List Operand). record i { kind = Code (record { op = Branch b; operands = Use x ∷ Use y ∷ OfBlock n ∷ ps }) k } ∷
+      ap (λ (ps : List Operand). record i { kind = Code (record { op = Branch b; operands = Use x ∷ Use y ∷ OfBlock n ∷ ps; volatile = false }) k } ∷
       items_shown (frame_of l.framed) None rest) (implicits_stay os all)
 
   form_shown : (a : ℕ) (i : Item) (c : Instruction) (k : Option ℕ) (rest : List Line) (f : Form) → FormView c.op c.operands f →
@@ -77,8 +77,8 @@ module _ (l : Layout) (framed : IsFramed l.framed) where
   form_shown a i c k rest f (call name os os_is op_is) back =
       ap (λ (kind : ItemKind). record i { kind = kind } ∷ items_shown (frame_of l.framed) None rest) back
   form_shown a i c k rest f (long b x y n os op_is os_is all) back =
-      subst (λ (op : Op). LongShown a i k n rest op c.operands) (sym op_is)
-      (subst (λ (ps : List Operand). LongShown a i k n rest (Branch b) ps) (sym os_is) (long_shown a i k rest b x y n os all))
+      subst (λ (op : Op). LongShown a i k n rest c.volatile op c.operands) (sym op_is)
+      (subst (λ (ps : List Operand). LongShown a i k n rest c.volatile (Branch b) ps) (sym os_is) (long_shown a i k rest c.volatile b x y n os all))
 
   kind_shown_first : (s : Site) (kind : ItemKind) (rest : List Line) → HasForm kind → SteadyKind kind → SlotsIn (slot_offsets l.framed) kind →
       ObjectsIn l.framed.objects kind →

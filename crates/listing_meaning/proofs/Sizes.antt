@@ -12,13 +12,13 @@ use Rattle.rv64_instr.specs.declared.op.BranchOp.{BranchOp}
 use Rattle.rv64_instr.specs.declared.op.LoadOp.{LoadOp}
 use Rattle.rv64_instr.specs.declared.op.StoreOp.{StoreOp}
 use Rattle.rv64_instr.specs.declared.operand.Operand.{Operand}
-use Rattle.rv64_instr.specs.declared.operand.Operand.TheVariants.{Def, Use, Imm, Slot, Object, Block, Symbol, Mask, ImplicitUse}
+use Rattle.rv64_instr.specs.declared.operand.Operand.TheVariants.{Def, Use, Imm, Slot, Object, Block, Symbol, Mask, ImplicitUse, GlobalRegisters}
 use Rattle.rv64_instr.specs.Arithmetic.{word}
 use Rattle.rv64_instr.specs.Form.{has_form, fits_call, fits_gone, fits_tail, is_tail_use}
 use Rattle.rv64_instr.specs.Row.{Row, Branches}
 use Rattle.rv64_instr.specs.Row.{move_row, add_row, immediate_row, object_row, registers_row, number_row, upper_row, branch_row, load_row, store_row}
-use Rattle.rv64_instr.specs.Row.{copy_row, jump_row, row_by, row_of, Calls, Returns, implicit_uses, outgoing_words}
-use Rattle.rv64_instr.specs.Row.{held_call, held_tail, held_gone, held_call_row, tail_row, held_tail_row, held_gone_row}
+use Rattle.rv64_instr.specs.Row.{copy_row, jump_row, row_by, row_of, Calls, Returns, implicit_uses}
+use Rattle.rv64_instr.specs.Row.{held_tail, held_gone, held_call_row, tail_row, held_tail_row, held_gone_row}
 use Rattle.rv64_instr.specs.Instruction.{Instruction}
 use Rattle.rv64_instr.specs.LocationEffects.{has_site}
 use Rattle.mir_func.specs.declared.item.ItemKind.TheVariants.{Code}
@@ -101,10 +101,8 @@ row_calls far (Returns ending) = site_form (has_site (Returns ending))
 row_calls far _ = refl
 
 held_call_no_site : (os : List Operand) → has_site (held_call_row os) ≡ false
-held_call_no_site os = by_uses (implicit_uses os) (outgoing_words os) where
-  by_uses : (xs outgoing : List ℕ) → has_site (held_call xs outgoing) ≡ false
-  by_uses [] outgoing = refl
-  by_uses (r ∷ xs) outgoing = refl
+held_call_no_site (Use r ∷ rest) = refl
+held_call_no_site _ = refl
 
 held_tail_no_site : (os : List Operand) → has_site (held_tail_row os) ≡ false
 held_tail_no_site os = by_uses (implicit_uses os) where
@@ -131,6 +129,7 @@ call_form f far os form = absurd cc
 behind_tail : (f : FramedFunction) (x : Operand) (os : List Operand) → list_all is_tail_use os ≡ true → by_pointer f (x ∷ os) ≡ x ∷ os
 behind_tail f x [] all = refl
 behind_tail f x (ImplicitUse r ∷ os) all = refl
+behind_tail f x (GlobalRegisters ∷ os) all = refl
 behind_tail f x (o ∷ os) all = absurd cc
 
 tail_form : (f : FramedFunction) (far : Bool) (os : List Operand) → fits_tail os ≡ true →

@@ -6,6 +6,7 @@ use Rattle.std.specs.List.{flat_map}
 use Rattle.rv64_instr.specs.declared.op.Op.TheVariants.{Branch}
 use Rattle.rv64_instr.specs.declared.operand.Operand.{Operand}
 use Rattle.rv64_instr.specs.declared.operand.Operand.TheVariants.{Def, Use, ImplicitDef, ImplicitUse, Imm, Slot, Object, Part, Outgoing, Symbol, Mask}
+use Rattle.rv64_instr.specs.declared.operand.Operand.TheVariants.{GlobalRegisters}
 use Rattle.rv64_instr.specs.declared.operand.Operand.TheVariants.{Block as OfBlock}
 use Rattle.rv64_instr.specs.Instruction.{Instruction}
 use Rattle.rv64_instr.specs.Row.{row_of}
@@ -18,8 +19,8 @@ use Rattle.mir_func.specs.declared.item.ItemKind.TheVariants.{Code, Mark, Phi}
 use Rattle.mir_func.specs.declared.position.Pos.{Pos}
 use Rattle.mir_func.specs.Graph.{Program, framed_program}
 use Rattle.mir_func.specs.Resolve.{resolve}
-use Rattle.sem_mir.specs.Align.{is_code}
-use Rattle.sem_machine.specs.Image.{CodeLine, Image, line_of}
+use Rattle.machine_steps_proof.specs.sem_mir.Align.{is_code}
+use Rattle.machine_steps_proof.specs.sem_machine.Image.{CodeLine, Image, line_of}
 use Rattle.listing_text.specs.declared.output.ItemLine.{ItemLine}
 use Rattle.listing_text.specs.declared.output.SkipLine.{SkipLine}
 use Rattle.listing_text.specs.declared.output.Line.{Line}
@@ -49,7 +50,7 @@ lines_of f = flat_map (λ b. b.lines) (blocks_of f)
 
 -- the branch that a skip and a jump to block `target` encode: the inverse of the skip's operation, with the jump's target
 abbrev pub branch_over : SkipLine → (target : ℕ) → Instruction
-branch_over s n = record { op = Branch (inverse s.op); operands = Use s.first ∷ Use s.second ∷ OfBlock n ∷ map operand_of s.implicit }
+branch_over s n = record { op = Branch (inverse s.op); operands = Use s.first ∷ Use s.second ∷ OfBlock n ∷ map operand_of s.implicit; volatile = false }
 
 -- the block that an instruction names as its first operand, if it does
 abbrev pub target_of : List Operand → Option ℕ
@@ -64,6 +65,7 @@ target_of (Slot n ∷ rest) = None
 target_of (Object n ∷ rest) = None
 target_of (Part half y ∷ rest) = None
 target_of (Outgoing n ∷ rest) = None
+target_of (GlobalRegisters ∷ rest) = None
 target_of (Symbol name ∷ rest) = None
 target_of (Mask ∷ rest) = None
 
@@ -157,7 +159,7 @@ IsLaidOut f = LinesLie f.low (lines_of f) f.high
 
 -- a branch over the next word as an instruction: the target operand is the offset 8
 abbrev pub skip_instruction : SkipLine → Instruction
-skip_instruction s = record { op = Branch s.op; operands = Use s.first ∷ Use s.second ∷ Imm (pos 8) ∷ map operand_of s.implicit }
+skip_instruction s = record { op = Branch s.op; operands = Use s.first ∷ Use s.second ∷ Imm (pos 8) ∷ map operand_of s.implicit; volatile = false }
 
 -- the code line of a line; none for a debug item
 abbrev pub code_lines : Line → List CodeLine

@@ -3,6 +3,7 @@
 -- An address of the form object + number may point to the end of the object, where the next object may begin, and objects of the local block may
 -- overlap. The machine word is the same for each of them, and a listing shows the address relative to the last object that has its byte (`object_at`).
 use Rattle.std.specs.Prelude.{◌≡◌, ℕ, ◌+◌, pos, List, ◌∷◌, ◌++◌, map, Some, Contains, IsTrue}
+use Rattle.rv64_instr.specs.Instruction.{is_volatile_load}
 use Rattle.rv64_instr.specs.declared.op.Op.{Op}
 use Rattle.rv64_instr.specs.declared.op.Op.TheVariants.{Registers, Immediate, Lui, Branch, Load, Store, Copy}
 use Rattle.rv64_instr.specs.declared.op.Op.TheVariants.{PseudoBr, PseudoCall, PseudoRet, PseudoCallIndirect}
@@ -51,9 +52,9 @@ settled_operands f PseudoTailIndirect operands = operands
 settled_operands f NoReturnCall operands = operands
 settled_operands f NoReturnCallIndirect operands = operands
 
--- an item kind with the operands of code changed so
+-- an item kind with the operands of code changed so. Only a load is shown as volatile
 abbrev pub settled_kind : FramedFunction → ItemKind → ItemKind
-settled_kind f (Code c k) = Code (record c { operands = settled_operands f c.op c.operands }) k
+settled_kind f (Code c k) = Code (record c { operands = settled_operands f c.op c.operands; volatile = is_volatile_load c }) k
 settled_kind f (Mark v m) = Mark v m
 settled_kind f (Phi p k) = Phi p k
 
@@ -88,8 +89,9 @@ AccessIsInside objects (ObjectAddress n offset) = HasBytes objects n (offset + 1
 abbrev pub LeadsInside : List Object → Row → Type 0
 LeadsInside objects row = AccessIsInside objects (access_of row)
 
--- code whose addresses of objects lead to bytes of those objects alone, so that a listing shows them relative to the same objects
+-- code whose addresses of objects lead to bytes of those objects alone, so that a listing shows them relative to the same objects, and that is volatile
+-- only if it is a load
 abbrev pub StaysInside : List Object → ItemKind → Type 0
-StaysInside objects (Code c k) = LeadsInside objects (row_of c)
+StaysInside objects (Code c k) = LeadsInside objects (row_of c) × (is_volatile_load c ≡ c.volatile)
 StaysInside objects (Mark v m) = Unit {0}
 StaysInside objects (Phi p k) = Unit {0}

@@ -36,10 +36,10 @@ use Rattle.frame_rule.specs.Rule.{saved_of}
 use Rattle.mir_func.specs.Exits.{leads_back}
 use Rattle.mir_func.specs.Positions.{position_of}
 use Rattle.base_ids.specs.Limits.{MAX_NUMBER}
-use Rattle.read_body.specs.Limits.{MAX_ITEMS}
+use Rattle.read_proof.specs.read_body.Limits.{MAX_ITEMS}
 use Rattle.mir_printer.specs.Printable.{IsNumber, HasNumbers, IsPrintablePlace}
 use Rattle.mir_printer.specs.Printable.{IsPrintableKind, IsPrintableLoc, IsPrintable}
-use Rattle.listing_text.specs.Shown.{IsPrintableOrigin}
+use Rattle.listing_function.specs.listing_text.Shown.{IsPrintableOrigin}
 use Rattle.listing_function.specs.Printable.{IsPrintableFramedKind, IsPrintableFramedItem, IsPrintableFramedBlock, IsPrintableFramed}
 use Rattle.listing_function.proofs.Printed.{both_sides, signed}
 use Rattle.read_proof.specs.Read.{declared_in}

@@ -6,7 +6,7 @@ use Rattle.mir_func.specs.declared.block.Block.{Block}
 use Rattle.mir_func.specs.Function.{Function}
 use Rattle.mir_func.specs.Sound.{AllItems, IsSound, HasForm}
 use Rattle.mir_func.specs.SoundFrame.{IsFramed}
-use Rattle.read_item.specs.Debug.{inlined_at_node}
+use Rattle.read_proof.specs.read_item.Debug.{inlined_at_node}
 use Rattle.mir_printer.specs.Printable.{IsNumber, IsPrintableLoc}
 use Rattle.frame_rule.specs.Rule.{framed_of}
 use Rattle.read_proof.specs.Read.{IsReadFunction}

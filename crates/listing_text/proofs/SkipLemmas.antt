@@ -31,11 +31,12 @@ use Rattle.mir_func.specs.declared.variable.VarId.{VarId}
 use Rattle.mir_func.specs.declared.variable.MarkValue.{MarkValue}
 use Rattle.mir_func.specs.declared.variable.MarkValue.TheVariants.{Nothing, Constant, At, Pair}
 use Rattle.mir_printer.specs.Spelling.{item_text, kind_text, location_text, number_text, mark_text, phi_text, instruction_text, definitions_text, uses_text}
-use Rattle.mir_printer.specs.Spelling.{is_definition, uses_behind}
+use Rattle.mir_printer.specs.Spelling.{is_definition, is_volatile_kind, uses_behind}
 use Rattle.mir_printer.specs.Spelling.{operand_text, register_text, comma_separated}
 use Rattle.mir_printer.specs.Printable.{IsNumber, HasNumbers, IsPrintableKind, Declared, IsPrintableInstruction}
 use Rattle.mir_printer.proofs.Cuts.{front_one, apart, run_one}
 use Rattle.mir_printer.proofs.Operands.{register_one, operand_one, Follows}
+use Rattle.mir_printer.proofs.Items.{ending, item_parts}
 use Rattle.listing_text.specs.declared.output.ItemLine.{ItemLine}
 use Rattle.listing_text.specs.declared.output.Implicit.{Implicit}
 use Rattle.listing_text.specs.declared.output.Implicit.TheVariants.{Def, Use}
@@ -313,8 +314,8 @@ no_kind declared loc (Phi p k) a r s is skips e =
 no_item : (inlined : ℕ → Option ℕ) (l : ItemLine) (a : SkipLine) (r s : List ℕ) → IsPrintableItem inlined l → IsPrintableSkip a →
     skip_text a ++ (10 ∷ r) ≡ item_text l.item ++ (10 ∷ s) → ⊥
 no_item inlined l a r s is skips e =
-    no_kind (declared_by inlined) l.item.loc l.item.kind a (implicits_before a.implicit r) (location_text l.item.loc ++ (10 ∷ s)) is.item.kind skips
-    (sym (skip_is a r) ∙ (e ∙ append_assoc (kind_text l.item.kind) (location_text l.item.loc) (10 ∷ s)))
+    no_kind (declared_by inlined) l.item.loc l.item.kind a (implicits_before a.implicit r)
+    (location_text l.item.loc ++ ending (is_volatile_kind l.item.kind) s) is.item.kind skips (sym (skip_is a r) ∙ (e ∙ item_parts l.item s))
 
 -- an item's line has no address, or one
 no_line_at : (inlined : ℕ → Option ℕ) (at : Option ℕ) (l : ItemLine) (a : SkipLine) (r s : List ℕ) → l.address ≡ at → IsPrintableItem inlined l →

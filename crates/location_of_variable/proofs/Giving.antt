@@ -27,13 +27,13 @@ use Rattle.location_of_variable.proofs.Locating.{is_same_itself, same_or, and_fa
 
 -- ---- one place is wanted
 
-word_one : (a b : ℤ) → IsPlace (Const a) → IsPlace (Const b) → word a ≡ word b → a ≡ b
+pub word_one : (a b : ℤ) → IsPlace (Const a) → IsPlace (Const b) → word a ≡ word b → a ≡ b
 word_one (pos m) (pos n) h k e = let is : m ≡ n = omega (arith, h, k, e) in ap pos is
 word_one (negsuc m) (negsuc n) h k e = let is : m ≡ n = omega (arith, h, k, e) in ap negsuc is
 word_one (pos m) (negsuc n) h k e = absurd (omega (arith, h, k, e))
 word_one (negsuc m) (pos n) h k e = absurd (omega (arith, h, k, e))
 
-pick : (m n : ℕ) → (m < n → ⊥) → (n < m → ⊥) → m ≡ n
+pub pick : (m n : ℕ) → (m < n → ⊥) → (n < m → ⊥) → m ≡ n
 pick m n h k = omega (arith, h, k)
 
 module _ (g : Program) (start p : Pos) (v : VarId) where
@@ -63,13 +63,13 @@ module _ (g : Program) (start p : Pos) (v : VarId) where
 
 -- ---- pieces by bytes
 
-record HasPiece (pieces : List Part) (b : Bytes) : Type 0 where
-  n : ℕ
-  piece : Part
-  at : slice_get pieces n ≡ Some piece
-  is : bytes_of piece ≡ b
+pub record HasPiece (pieces : List Part) (b : Bytes) : Type 0 where
+  pub n : ℕ
+  pub piece : Part
+  pub at : slice_get pieces n ≡ Some piece
+  pub is : bytes_of piece ≡ b
 
-piece_or : (pieces : List Part) (b : Bytes) → HasPiece pieces b ⊎ (Contains (map bytes_of pieces) b → ⊥)
+pub piece_or : (pieces : List Part) (b : Bytes) → HasPiece pieces b ⊎ (Contains (map bytes_of pieces) b → ⊥)
 piece_or [] b = inr (λ (k, lt, e). omega (arith, lt))
 piece_or (x ∷ xs) b = elim (same_or (bytes_of x) b) [
   | inl same ↦ inl (record { n = 0; piece = x; at = refl; is = same })
@@ -102,7 +102,7 @@ no_piece x e = cc
 
 module _ (g : Program) (start : Pos) (v : VarId) (p : Pos) where
   -- where the whole sits somewhere, no bytes of it do
-  whole_alone : (b : Bytes) (q r : Place) → SitsIn g start (part_of v None) q p → SitsIn g start (part_of v (Some b)) r p → ⊥
+  pub whole_alone : (b : Bytes) (q r : Place) → SitsIn g start (part_of v None) q p → SitsIn g start (part_of v (Some b)) r p → ⊥
   whole_alone b q r x y =
       let path = x.reached in
       let one = x.same path.0 path.1 path.2 in

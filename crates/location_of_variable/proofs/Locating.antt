@@ -17,7 +17,7 @@ use Rattle.mir_func.specs.declared.variable.VarId.{VarId}
 use Rattle.mir_func.specs.Graph.{Program}
 use Rattle.mir_func.specs.Parts.{Bytes, IsPart}
 use Rattle.mir_func.specs.Variables.{is_same_node, is_same_variable, are_same_bytes, is_same, do_meet, overlaps}
-use Rattle.sem_mir.specs.PreferredLocation.{IsPreferredLocation, NoneIsPreferred}
+use Rattle.sem_mir.specs.PreferredLocation.{SitsIn, IsPreferredLocation, NoneIsPreferred}
 use Rattle.sem_mir.proofs.Assignments.{one_assigned}
 use Rattle.dwarf_loclists.specs.declared.range.Part.{Part}
 use Rattle.dwarf_loclists.specs.declared.range.Location.TheVariants.{Whole}
@@ -50,11 +50,11 @@ and_false false = refl
 
 -- ---- pieces that rise
 
-abbrev Rises : ℕ → List Piece → Type 0
+abbrev pub Rises : ℕ → List Piece → Type 0
 Rises low [] = Unit {0}
 Rises low (x ∷ xs) = (low ≤ x.bytes.offset) × Rises x.bytes.offset xs
 
-rises : (xs : List Piece) (low : ℕ) → IsNonDecreasingBy (λ (x : Piece). x.bytes.offset) xs →
+pub rises : (xs : List Piece) (low : ℕ) → IsNonDecreasingBy (λ (x : Piece). x.bytes.offset) xs →
     ((d : Piece) → 0 < length xs → low ≤ (slice_index_or xs 0 d).bytes.offset) → Rises low xs
 rises [] low ascend least = tt
 rises (x ∷ xs) low ascend least = (
@@ -63,32 +63,22 @@ rises (x ∷ xs) low ascend least = (
       (omega (arith, some))),
 )
 
--- ---- at a position
+-- ---- the pieces that parts get by their places
+--
+-- `Wants` says which place is wanted for some bytes, and `WantsNone` that none is.
 
-module _ (g : Program) (start p : Pos) (v : VarId) where
-  abbrev Wanted : Bytes → Place → Type 0
-  Wanted b q = IsPreferredLocation g start (part_of v (Some b)) p q
-
-  -- two parts that overlap, and for which places are wanted, are one
-  apart : (b c : Bytes) (q r : Place) → do_meet (Some b) (Some c) ≡ true → are_same_bytes (Some b) (Some c) ≡ false → Wanted b q → Wanted c r → ⊥
-  apart b c q r meet differ x y =
-      let path = x.sits.reached in
-      let one = x.sits.same path.0 path.1 path.2 in
-      let other = y.sits.same path.0 path.1 path.2 in
-      let v1 = part_of v (Some b) in
-      let v2 = part_of v (Some c) in
-      let variable : is_same_variable v1 v2 ≡ true = and_from (nat_eq v.node v.node) (is_same_node v.inlined_at v.inlined_at) (eq-eqb v.node v.node refl)
-      (is_same_itself v.inlined_at) in
-      let meets : overlaps v1 v2 ≡ true = and_from (is_same_variable v1 v2) (do_meet (Some b) (Some c)) variable meet in
-      let differs : is_same v1 v2 ≡ false = ap (λ (z : Bool). is_same_variable v1 v2 && z) differ ∙ and_false (is_same_variable v1 v2) in
-      one_assigned v1 v2 (path.1).marks one.0 other.0 meets differs one.1 other.1
+module _ (Wants : Bytes → Place → Type 0) (WantsNone : Bytes → Type 0)
+    (apart : (b c : Bytes) (q r : Place) → do_meet (Some b) (Some c) ≡ true → are_same_bytes (Some b) (Some c) ≡ false → Wants b q → Wants c r → ⊥) where
+  abbrev pub WantsOrNone : Bytes → Option Place → Type 0
+  WantsOrNone b None = WantsNone b
+  WantsOrNone b (Some q) = Wants b q
 
   module _ (place : ℕ → Option Place) where
     -- what is known of a part: the place that is wanted for it, which may be listed
-    record Given (x : Piece) : Type 0 where
-      wanted : IsWantedPlace g start (part_of v (Some x.bytes)) p (place x.index)
-      listed : (q : Place) → place x.index ≡ Some q → IsListed q
-      part : IsPart x.bytes
+    pub record Given (x : Piece) : Type 0 where
+      pub wanted : WantsOrNone x.bytes (place x.index)
+      pub listed : (q : Place) → place x.index ≡ Some q → IsListed q
+      pub part : IsPart x.bytes
 
     abbrev piece_of : Bytes → Place → Part
     piece_of b q = record { offset = b.offset; length = b.length; place = q }
@@ -101,10 +91,10 @@ module _ (g : Program) (start p : Pos) (v : VarId) where
     from_test z q from x xs =
         option_to_list (cond z (Some (piece_of x.bytes q)) None) ++ pieces_from place (end_past (cond z (Some (piece_of x.bytes q)) None) from) xs
 
-    abbrev IsAtWanted : Part → Type 0
-    IsAtWanted y = Wanted (bytes_of y) y.place
+    abbrev pub IsAtWanted : Part → Type 0
+    IsAtWanted y = Wants (bytes_of y) y.place
 
-    each_place : (o : Option Place) (x : Piece) (xs : List Piece) (from : ℕ) → IsWantedPlace g start (part_of v (Some x.bytes)) p o →
+    each_place : (o : Option Place) (x : Piece) (xs : List Piece) (from : ℕ) → WantsOrNone x.bytes o →
         ((from : ℕ) → All IsAtWanted (pieces_from place from xs)) → All IsAtWanted (from_place o from x xs)
     each_place None x xs from wanted rest = rest from
     each_place (Some q) x xs from wanted rest = elim (nat_le from x.bytes.offset) as (λ (z : Bool). All IsAtWanted (from_test z q from x xs)) [
@@ -113,7 +103,7 @@ module _ (g : Program) (start p : Pos) (v : VarId) where
       | false ↦ rest from
     ]
 
-    told_each : (xs : List Piece) (from : ℕ) → All Given xs → All IsAtWanted (pieces_from place from xs)
+    pub told_each : (xs : List Piece) (from : ℕ) → All Given xs → All IsAtWanted (pieces_from place from xs)
     told_each [] from given = All-nil IsAtWanted
     told_each (x ∷ xs) from given =
         each_place (place x.index) x xs from (All-head Given x xs given).wanted (λ from. told_each xs from (All-tail Given x xs given))
@@ -129,7 +119,7 @@ module _ (g : Program) (start p : Pos) (v : VarId) where
           ((le, part.0, part.1, omega (arith, end), listed q refl), rest (x.bytes.offset + x.bytes.length))
       by_test false e = rest from
 
-    told_ascend : (xs : List Piece) (from : ℕ) → All Given xs → ArePieces from (pieces_from place from xs)
+    pub told_ascend : (xs : List Piece) (from : ℕ) → All Given xs → ArePieces from (pieces_from place from xs)
     told_ascend [] from given = tt
     told_ascend (x ∷ xs) from given =
         let head = All-head Given x xs given in
@@ -138,14 +128,14 @@ module _ (g : Program) (start p : Pos) (v : VarId) where
     -- ---- the parts that have no piece
 
     -- the last piece ends where the next may begin
-    abbrev IsLast : Option Part → (from low : ℕ) → Type 0
+    abbrev pub IsLast : Option Part → (from low : ℕ) → Type 0
     IsLast None from low = from ≡ 0
     IsLast (Some y) from low = (from ≡ y.offset + y.length) × IsAtWanted y × (y.offset ≤ low)
 
     -- some bytes have a piece among these, or are those of the last one before, or no place is wanted for them
-    data Told (ys : List Part) (last : Option Part) (b : Bytes) : Type 0 where
+    pub data Told (ys : List Part) (last : Option Part) (b : Bytes) : Type 0 where
       among : Contains (map bytes_of ys) b → Told ys last b
-      nowhere : NoneIsPreferred g start (part_of v (Some b)) p → Told ys last b
+      nowhere : WantsNone b → Told ys last b
       before : (y : Part) → last ≡ Some y → bytes_of y ≡ b → Told ys last b
 
     last_later : (last : Option Part) (from low high : ℕ) → low ≤ high → IsLast last from low → IsLast last from high
@@ -167,7 +157,7 @@ module _ (g : Program) (start p : Pos) (v : VarId) where
 
     -- a part that begins before the last piece ends is of its bytes
     left_out : (last : Option Part) (x : Piece) (q : Place) (from low : ℕ) (ys : List Part) → IsLast last from low → low ≤ x.bytes.offset →
-        x.bytes.offset < from → IsPart x.bytes → Wanted x.bytes q → Told ys last x.bytes
+        x.bytes.offset < from → IsPart x.bytes → Wants x.bytes q → Told ys last x.bytes
     left_out None x q from low ys is le lt part wanted = absurd (omega (arith, is, lt))
     left_out (Some y) x q from low ys is le lt part wanted = elim (same_or (bytes_of y) x.bytes) [
       | inl same ↦ before y refl same
@@ -184,7 +174,7 @@ module _ (g : Program) (start p : Pos) (v : VarId) where
 
     -- the first part itself
     here_place : (o : Option Place) (x : Piece) (xs : List Piece) (from low : ℕ) (last : Option Part) → IsLast last from low → low ≤ x.bytes.offset →
-        IsPart x.bytes → IsWantedPlace g start (part_of v (Some x.bytes)) p o → Told (from_place o from x xs) last x.bytes
+        IsPart x.bytes → WantsOrNone x.bytes o → Told (from_place o from x xs) last x.bytes
     here_place None x xs from low last is le part wanted = nowhere wanted
     here_place (Some q) x xs from low last is le part wanted = by_test (nat_le from x.bytes.offset) refl where
       by_test : (z : Bool) → nat_le from x.bytes.offset ≡ z → Told (from_test z q from x xs) last x.bytes
@@ -195,7 +185,7 @@ module _ (g : Program) (start p : Pos) (v : VarId) where
 
     -- a later one
     below_place : (o : Option Place) (x : Piece) (xs : List Piece) (from low : ℕ) (last : Option Part) (b : Bytes) → IsLast last from low →
-        low ≤ x.bytes.offset → IsWantedPlace g start (part_of v (Some x.bytes)) p o →
+        low ≤ x.bytes.offset → WantsOrNone x.bytes o →
         ((from : ℕ) (last : Option Part) → IsLast last from x.bytes.offset → Told (pieces_from place from xs) last b) → Told (from_place o from x xs) last b
     below_place None x xs from low last b is le wanted rest = rest from last (last_later last from low x.bytes.offset le is)
     below_place (Some q) x xs from low last b is le wanted rest = elim (nat_le from x.bytes.offset) as (λ (z : Bool). Told (from_test z q from x xs) last b) [
@@ -204,7 +194,7 @@ module _ (g : Program) (start p : Pos) (v : VarId) where
       | false ↦ rest from last (last_later last from low x.bytes.offset le is)
     ]
 
-    told_covers : (xs : List Piece) (from low : ℕ) (last : Option Part) → IsLast last from low → Rises low xs → All Given xs → (i : ℕ) (x : Piece) →
+    pub told_covers : (xs : List Piece) (from low : ℕ) (last : Option Part) → IsLast last from low → Rises low xs → All Given xs → (i : ℕ) (x : Piece) →
         slice_get xs i ≡ Some x → Told (pieces_from place from xs) last x.bytes
     told_covers [] from low last is up given i x e = absurd (let no : None ≡ Some x = e in cc)
     told_covers (y ∷ xs) from low last is up given zero x e =
@@ -215,6 +205,37 @@ module _ (g : Program) (start p : Pos) (v : VarId) where
     told_covers (y ∷ xs) from low last is up given (suc i) x e =
         below_place (place y.index) y xs from low last x.bytes is up.0 (All-head Given y xs given).wanted
         (λ from last is. told_covers xs from y.bytes.offset last is up.1 (All-tail Given y xs given) i x e)
+
+-- ---- at a position
+
+module _ (g : Program) (start p : Pos) (v : VarId) where
+  abbrev Wanted : Bytes → Place → Type 0
+  Wanted b q = IsPreferredLocation g start (part_of v (Some b)) p q
+
+  abbrev NoneWanted : Bytes → Type 0
+  NoneWanted b = NoneIsPreferred g start (part_of v (Some b)) p
+
+  -- two parts that overlap, and sit somewhere, are one
+  pub apart_sits : (b c : Bytes) (q r : Place) → do_meet (Some b) (Some c) ≡ true → are_same_bytes (Some b) (Some c) ≡ false →
+      SitsIn g start (part_of v (Some b)) q p → SitsIn g start (part_of v (Some c)) r p → ⊥
+  apart_sits b c q r meet differ x y =
+      let path = x.reached in
+      let one = x.same path.0 path.1 path.2 in
+      let other = y.same path.0 path.1 path.2 in
+      let v1 = part_of v (Some b) in
+      let v2 = part_of v (Some c) in
+      let variable : is_same_variable v1 v2 ≡ true = and_from (nat_eq v.node v.node) (is_same_node v.inlined_at v.inlined_at) (eq-eqb v.node v.node refl)
+      (is_same_itself v.inlined_at) in
+      let meets : overlaps v1 v2 ≡ true = and_from (is_same_variable v1 v2) (do_meet (Some b) (Some c)) variable meet in
+      let differs : is_same v1 v2 ≡ false = ap (λ (z : Bool). is_same_variable v1 v2 && z) differ ∙ and_false (is_same_variable v1 v2) in
+      one_assigned v1 v2 (path.1).marks one.0 other.0 meets differs one.1 other.1
+
+  apart : (b c : Bytes) (q r : Place) → do_meet (Some b) (Some c) ≡ true → are_same_bytes (Some b) (Some c) ≡ false → Wanted b q → Wanted c r → ⊥
+  apart b c q r meet differ x y = apart_sits b c q r meet differ x.sits y.sits
+
+  wanted_or_none : (b : Bytes) (o : Option Place) → IsWantedPlace g start (part_of v (Some b)) p o → WantsOrNone Wanted NoneWanted apart b o
+  wanted_or_none b None is = is
+  wanted_or_none b (Some q) is = is
 
 -- ---- the location
 
@@ -234,17 +255,24 @@ module _ (g : Program) (start p : Pos) (parts : List VarId) (places : List (Opti
     listed_by None e = absurd (let no : None ≡ Some q = e in cc)
     listed_by (Some j) e = are.listed j q e
 
-  given : (x : Piece) → IsPieceOf parts v x × IsPart x.bytes → Given g start p v (place_at places) x
-  given x (at, part) = record { wanted = are.each x.index (part_of v (Some x.bytes)) at; listed = are.listed x.index; part = part }
+  abbrev IsGiven : Piece → Type 0
+  IsGiven = Given (Wanted g start p v) (NoneWanted g start p v) (apart g start p v) (place_at places)
 
-  all_given : (xs : List Piece) → All (IsPieceOf parts v) xs → All (λ (x : Piece). IsPart x.bytes) xs → All (Given g start p v (place_at places)) xs
+  given : (x : Piece) → IsPieceOf parts v x × IsPart x.bytes → IsGiven x
+  given x (at, part) = record {
+    wanted = wanted_or_none g start p v x.bytes (place_at places x.index) (are.each x.index (part_of v (Some x.bytes)) at);
+    listed = are.listed x.index;
+    part = part;
+  }
+
+  all_given : (xs : List Piece) → All (IsPieceOf parts v) xs → All (λ (x : Piece). IsPart x.bytes) xs → All IsGiven xs
   all_given xs each bounds = λ k d lt. given (slice_index_or xs k d) (each k d lt, bounds k d lt)
 
   module _ (bounds : All (λ (x : Piece). IsPart x.bytes) group.pieces.items) where
     abbrev told : List Part
     told = pieces_from (place_at places) 0 group.pieces.items
 
-    all : All (Given g start p v (place_at places)) group.pieces.items
+    all : All IsGiven group.pieces.items
     all = all_given group.pieces.items is.each bounds
 
     others : (b : Bytes) → (Contains (map bytes_of told) b → ⊥) → NoneIsPreferred g start (part_of v (Some b)) p
@@ -252,7 +280,7 @@ module _ (g : Program) (start p : Pos) (parts : List VarId) (places : List (Opti
         are.others (part_of v (Some b))
         (λ (j, lt, e). at_index j (slice_get_read parts (length parts) j (part_of v (Some b)) refl lt (sym e))) q named sits
       where
-        by_told : Told g start p v (place_at places) told None b → ⊥
+        by_told : Told (Wanted g start p v) (NoneWanted g start p v) (apart g start p v) (place_at places) told None b → ⊥
         by_told (among c) = not c
         by_told (nowhere none) = none q named sits
         by_told (before y e same) = absurd (let no : None ≡ Some y = e in cc)
@@ -261,7 +289,7 @@ module _ (g : Program) (start p : Pos) (parts : List VarId) (places : List (Opti
         at_index j at =
             let x : Piece = record { bytes = b; index = j } in
             let c = is.all j b at in
-            by_told (told_covers g start p v (place_at places) group.pieces.items 0 0 None refl
+            by_told (told_covers (Wanted g start p v) (NoneWanted g start p v) (apart g start p v) (place_at places) group.pieces.items 0 0 None refl
             (rises group.pieces.items 0 is.ascend (λ d some. omega arith)) all c.0 x
             (slice_get_read group.pieces.items (length group.pieces.items) c.0 x refl c.1 (sym c.2)))
 
@@ -277,9 +305,9 @@ module _ (g : Program) (start p : Pos) (parts : List VarId) (places : List (Opti
     pieces_wanted e =
         pieces_by told (subst (IsWantedPlace g start (part_of v None) p) e (whole_by group.whole is.whole))
         (record {
-          each = told_each g start p v (place_at places) group.pieces.items 0 all;
+          each = told_each (Wanted g start p v) (NoneWanted g start p v) (apart g start p v) (place_at places) group.pieces.items 0 all;
           others = others;
-          ascend = told_ascend g start p v (place_at places) group.pieces.items 0 all;
+          ascend = told_ascend (Wanted g start p v) (NoneWanted g start p v) (apart g start p v) (place_at places) group.pieces.items 0 all;
         })
 
     pub pieces_listed : whole_place (place_at places) group.whole ≡ None → MayBeListed (in_pieces told)

@@ -4,7 +4,7 @@ use Rattle.rv64_instr.specs.declared.place.Place.{Place}
 use Rattle.mir_func.specs.declared.position.Pos.{Pos}
 use Rattle.mir_func.specs.declared.variable.VarId.{VarId}
 use Rattle.mir_func.specs.Graph.{Program}
-use Rattle.mir_func.specs.Parts.{Bytes}
+use Rattle.mir_func.specs.Parts.{Bytes, IsPart}
 use Rattle.sem_mir.specs.PreferredLocation.{IsPreferredLocation, NoneIsPreferred}
 use Rattle.dwarf_loclists.specs.declared.range.Part.{Part}
 use Rattle.dwarf_loclists.specs.declared.range.Location.{Location}
@@ -12,6 +12,7 @@ use Rattle.dwarf_loclists.specs.declared.range.Location.TheVariants.{Whole, Part
 use Rattle.dwarf_loclists.specs.Ranges.{ArePieces, IsListed, IsLocated}
 use Rattle.location_of_variable.specs.Groups.{part_of, IsGroupOf}
 use Rattle.location_of_variable.specs.declared.group.Group.{Group}
+use Rattle.location_of_variable.specs.steps.Telling.{place_at, whole_place, location_told}
 
 -- the place required for a part of a variable at a position, or None if none is
 abbrev pub IsWantedPlace : (g : Program) (start : Pos) → VarId → Pos → Option Place → Type 0
@@ -55,6 +56,9 @@ pub record IsLocationBy (group : Group) (places : List (Option Place)) (o : Opti
       IsWantedLocation g start v p o
   pub listed : (g : Program) (start p : Pos) (parts : List VarId) (v : VarId) → AreWantedPlaces g start p parts places → IsGroupOf parts v group →
       MayBeListed o
+  -- it is told by the places, whatever they are
+  pub told : o ≡ location_told group places
+  pub bounds : whole_place (place_at places) group.whole ≡ None → All (λ x. IsPart x.bytes) group.pieces.items
 
 -- each part of a group has the same place in both
 pub record HaveSamePlaces (group : Group) (places others : List (Option Place)) : Type 0 where

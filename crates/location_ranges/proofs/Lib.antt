@@ -5,3 +5,4 @@ pub mod Looking
 pub mod Walking
 pub mod OneList
 pub mod Still
+pub mod Resting

@@ -14,14 +14,14 @@ use Rattle.mir_func.specs.declared.position.Pos.{Pos}
 use Rattle.mir_func.specs.declared.variable.VarId.{VarId}
 use Rattle.mir_func.specs.Graph.{Program, block_start}
 use Rattle.mir_func.specs.Successors.{pos_in}
-use Rattle.sem_mir.specs.PreferredLocation.{NoneIsPreferred}
-use Rattle.sem_value_ids.specs.Pullback.{OfVariable}
-use Rattle.value_solver.specs.declared.tracked.Tracked.{Tracked}
-use Rattle.value_solver.specs.declared.tracked.Tracked.TheVariants.{Pair, Part, Number}
-use Rattle.value_solver.specs.declared.tracked.Tracked.TheVariants as tracked
-use Rattle.value_solver.specs.Entry.{thing}
-use Rattle.value_proof.specs.PreferredByClass.{HasItsClass, IsFirstByClass, IsWantedOrNone}
-use Rattle.value_proof.proofs.Wanted.{first_by_class_is_wanted, unmarked_is_nowhere}
+use Rattle.location_of_variable.specs.sem_mir.PreferredLocation.{NoneIsPreferred}
+use Rattle.value_tracker.specs.sem_value_ids.Pullback.{OfVariable}
+use Rattle.value_tracker.specs.value_solver.declared.tracked.Tracked.{Tracked}
+use Rattle.value_tracker.specs.value_solver.declared.tracked.Tracked.TheVariants.{Pair, Part, Number}
+use Rattle.value_tracker.specs.value_solver.declared.tracked.Tracked.TheVariants as tracked
+use Rattle.value_tracker.specs.value_solver.Entry.{thing}
+use Rattle.value_tracker.specs.value_proof.PreferredByClass.{HasItsClass, IsFirstByClass, IsWantedOrNone}
+use Rattle.value_tracker.proofs.value_proof.Wanted.{first_by_class_is_wanted, unmarked_is_nowhere}
 use Rattle.value_tracker.proofs.Constants.{place_is_first}
 use Rattle.value_tracker.specs.declared.index.TrackedIndex.{TrackedIndex}
 use Rattle.value_tracker.specs.LowestLocation.{AreFirsts}
@@ -60,7 +60,7 @@ wanted_or : (g : Program) (start : Pos) (w : VarId) (p : Pos) (o : Option Place)
 wanted_or g start w p None is = is
 wanted_or g start w p (Some q) is = is
 
-thing_at : (things : List Tracked) (j : ℕ) (x : Tracked) → slice_get things j ≡ Some x → Contains (map thing things) (thing x)
+pub thing_at : (things : List Tracked) (j : ℕ) (x : Tracked) → slice_get things j ≡ Some x → Contains (map thing things) (thing x)
 thing_at [] j x e = absurd (let no : None ≡ Some x = e in cc)
 thing_at (y ∷ ys) zero x e = let same : y ≡ x = cc in (0, omega arith, ap thing same)
 thing_at (y ∷ ys) (suc j) x e = let h = thing_at ys j x e in (suc h.0, let lt = h.1 in omega (arith, lt), h.2)

@@ -44,7 +44,7 @@ at_entry a end [] i e stand at = absurd (let no : None ≡ Some e = at in cc)
 at_entry a end (x ∷ es) zero e stand at = let same : x ≡ e = cc in subst (λ (z : EncodedInstruction). z.address ≡ a) same stand.0
 at_entry a end (x ∷ es) (suc i) e stand at = at_entry (a + x.size) end es i e stand.2 at
 
-begin_first : (a : ℕ) (es : List EncodedInstruction) → begin_at a es 0 ≡ a
+pub begin_first : (a : ℕ) (es : List EncodedInstruction) → begin_at a es 0 ≡ a
 begin_first a [] = refl
 begin_first a (x ∷ es) = refl
 
@@ -64,7 +64,7 @@ below_begin a (x ∷ es) zero = omega arith
 below_begin a (x ∷ es) (suc i) = let h = below_begin (a + x.size) es i in omega (arith, h)
 
 -- an entry before another ends by its address
-ends_by : (a end : ℕ) (es : List EncodedInstruction) (i n : ℕ) (e : EncodedInstruction) → StandFrom a es end → n < i → slice_get es n ≡ Some e →
+pub ends_by : (a end : ℕ) (es : List EncodedInstruction) (i n : ℕ) (e : EncodedInstruction) → StandFrom a es end → n < i → slice_get es n ≡ Some e →
     e.address + e.size ≤ begin_at a es i
 ends_by a end [] i n e stand lt at = absurd (let no : None ≡ Some e = at in cc)
 ends_by a end (x ∷ es) zero n e stand lt at = absurd (omega (arith, lt))
@@ -87,7 +87,7 @@ all_located xs o places a (Some l) listed b =
 covered_is : (u : Track) (xs : List Range) (o : Option Open) → u.ranges ≡ xs → u.present ≡ o → (b : ℕ) → xs ++ closed o b ≡ covered u b
 covered_is u xs o ranges present b = λ i. sym ranges i ++ closed (sym present i) b
 
-turned_places : (t u : Track) (a : ℕ) (l : Option Location) → Turns t a l u → MayBeListed l → ((b : ℕ) → ArePlaces (covered t b)) → (b : ℕ) →
+pub turned_places : (t u : Track) (a : ℕ) (l : Option Location) → Turns t a l u → MayBeListed l → ((b : ℕ) → ArePlaces (covered t b)) → (b : ℕ) →
     ArePlaces (covered u b)
 turned_places t u a l (stays same ranges present) listed places b = subst ArePlaces (covered_is u t.ranges t.present ranges present b) (places b)
 turned_places t u a l (turns differs ranges present) listed places b =

@@ -12,15 +12,15 @@ use Rattle.mir_func.specs.Exits.{exit_of, row_exit}
 use Rattle.mir_func.specs.Graph.{Program, Fetch, Here, below, block_start, front, fetch_in, FetchEdge, KindEdge, RowEdge}
 use Rattle.mir_func.specs.Resolve.{resolve}
 use Rattle.mir_func.specs.Successors.{pos_in}
-use Rattle.sem_value_ids.specs.Pullback.{Tracked, OfNumber, Was, back}
-use Rattle.value_solver.specs.declared.tracked.Tracked.{Tracked as Thing}
+use Rattle.value_tracker.specs.sem_value_ids.Pullback.{Tracked, OfNumber, Was, back}
+use Rattle.value_tracker.specs.value_solver.declared.tracked.Tracked.{Tracked as Thing}
 use Rattle.rv64_instr.specs.Arithmetic.{word}
-use Rattle.value_solver.specs.declared.entry.BlockEntry.{BlockEntry}
-use Rattle.value_solver.specs.Entry.{thing, IsEntry}
-use Rattle.value_proof.specs.Classes.{Classes, IsReached, AreClasses, AreFresh, class_back, pairs_of}
-use Rattle.value_proof.specs.PreferredByClass.{pairs_at, known_before}
-use Rattle.value_proof.proofs.Pairs.{adds_before}
-use Rattle.value_proof.proofs.Passing.{classes_fewer, classes_pass_items, paths_come_from_above}
+use Rattle.value_tracker.specs.value_solver.declared.entry.BlockEntry.{BlockEntry}
+use Rattle.value_tracker.specs.value_solver.Entry.{thing, IsEntry}
+use Rattle.value_tracker.specs.value_proof.Classes.{Classes, IsReached, AreClasses, AreFresh, class_back, pairs_of}
+use Rattle.value_tracker.specs.value_proof.PreferredByClass.{pairs_at, known_before}
+use Rattle.value_tracker.proofs.value_proof.Pairs.{adds_before}
+use Rattle.value_tracker.proofs.value_proof.Passing.{classes_fewer, classes_pass_items, paths_come_from_above}
 use Rattle.value_tracker.specs.declared.index.TrackedIndex.{TrackedIndex}
 use Rattle.value_tracker.specs.Things.{Settle, settled_at}
 use Rattle.value_tracker.specs.LocationTracker.{Holds, Passes}

@@ -1,5 +1,5 @@
 -- The walk's state before an item.
-use Rattle.std.specs.Prelude.{◌≡◌, ℕ, List, length, map, Some, true, false, slice_get}
+use Rattle.std.specs.Prelude.{◌≡◌, ◌⊎◌, ℕ, ◌<◌, ◌≤◌, List, length, map, Some, true, false, slice_get}
 use Rattle.mir_func.specs.declared.block.Block.{Block}
 use Rattle.mir_func.specs.declared.debug_substitution.DebugSubstitution.{DebugSubstitution}
 use Rattle.mir_func.specs.declared.exit.Exit.{Exit}
@@ -8,10 +8,10 @@ use Rattle.mir_func.specs.declared.item.Item.{Item}
 use Rattle.mir_func.specs.Graph.{Program, block_start, framed_program}
 use Rattle.mir_func.specs.Resolve.{resolve}
 use Rattle.mir_func.specs.Successors.{pos_in}
-use Rattle.value_solver.specs.declared.entry.BlockEntry.{BlockEntry}
-use Rattle.value_solver.specs.Entry.{thing, IsEntry}
-use Rattle.value_proof.specs.Classes.{Classes, AreClasses, IsReached}
-use Rattle.value_proof.specs.PreferredByClass.{AreEnoughFor, known_before}
+use Rattle.value_tracker.specs.value_solver.declared.entry.BlockEntry.{BlockEntry}
+use Rattle.value_tracker.specs.value_solver.Entry.{thing, IsEntry}
+use Rattle.value_tracker.specs.value_proof.Classes.{Classes, AreClasses, IsReached}
+use Rattle.value_tracker.specs.value_proof.PreferredByClass.{AreEnoughFor, known_before}
 use Rattle.value_tracker.specs.declared.index.TrackedIndex.{TrackedIndex}
 use Rattle.value_tracker.specs.Things.{AreThings}
 use Rattle.value_tracker.specs.LocationTracker.{PLACES, Holds}
@@ -61,3 +61,10 @@ Falls Final = ⊥
 -- the block at this index has these items
 abbrev pub IsBlockAt : List Block → ℕ → List Item → Type 0
 IsBlockAt blocks b items = (block : Block) × (slice_get blocks b ≡ Some block) × (block.items ≡ items)
+
+-- past items of the block: the constants are the same, and so are the classes of parts if no debug value was passed
+pub record Stays (before after : TransferTracker) : Type 0 where
+  pub item : before.item ≤ after.item
+  pub constants : after.constants ≡ before.constants
+  pub marked : (after.marked ≡ before.marked) ⊎ (before.item < after.marked)
+  pub parts : after.marked ≤ before.item → after.held.parts ≡ before.held.parts

@@ -1,3 +1,4 @@
 pub mod Saying
 pub mod Places
+pub mod Seen
 pub mod Walk

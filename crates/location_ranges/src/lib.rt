@@ -8,6 +8,7 @@
 pub mod laws;
 pub mod places;
 pub mod ranges;
+pub mod seen;
 pub mod track;
 pub mod transfer_tracker;
 pub mod turn;

@@ -10,7 +10,7 @@ use crate::transfer_tracker::TransferTracker;
 use rv64_instr::place::Place;
 use std::alloc::AllocError;
 use value_tracker::class_location::place_of;
-use value_tracker::lowest_location::{empty, fill};
+use value_tracker::lowest_location::{empty, end_of, fill};
 
 /// Looks up the place of each part of a variable before an item: the first location of its class, and None at an
 /// unreached item. A table of first locations is filled for it, and emptied again. Returns whether a place changed, and
@@ -124,7 +124,9 @@ fn make_room(firsts: &mut Vec<Option<usize>>, places: &[usize]) -> Result<(), Al
     ensures empty { OnOk result (IsEmpty firsts.new.items) }
     ensures room { OnOk result ((i : ℕ) → i < length places.now → slice_index places.now i < length firsts.new.items) }
 {
-    for i in 0..places.len() {
+    extend(firsts, 0)?;
+    let end = end_of(places);
+    for i in 0..end {
         extend(firsts, places[i])?;
     }
     Ok(())

@@ -15,8 +15,9 @@ ghost use Rattle.location_ranges.specs.steps.Saying.{TurnedBelow, IsNew, Closes}
 ghost use Rattle.location_ranges.specs.steps.Walk.{IsPointIn, Fits, HaveSaid};
 
 use crate::places::look_up;
+use crate::seen::{Seen, rests, see};
 use crate::track::Track;
-use crate::transfer_tracker::{TransferTracker, enter, move_to};
+use crate::transfer_tracker::{TransferTracker, enter, is_onward, move_to};
 use crate::turn::turn_all;
 use crate::values::Values;
 use dwarf_loclists::range::{RangeLists, Ranges};
@@ -42,6 +43,8 @@ pub struct Walk {
     pub changed: Vec<bool>,
     /// Whether the tracks have turned at an entry.
     pub turned: bool,
+    /// What the last lookup saw, if the next one may be left out.
+    pub seen: Option<Seen>,
     /// The track of each variable.
     pub tracks: Vec<Track>,
 }
@@ -63,7 +66,7 @@ pub fn all_ranges(
         variables.now lists) }
     ensures ascend { IfOk result (All Ascend) }
 {
-    let groups = groups(alloc, values.variables, variables)?;
+    let groups = groups(alloc, values.variables.as_slice(), variables)?;
     let tracks = new_tracks(alloc, variables.len())?;
     let tracks = past_entries(
         alloc,
@@ -77,7 +80,7 @@ pub fn all_ranges(
 }
 
 /// The blocks of the function.
-fn blocks_of(code: &Code) -> &[Block]
+pub fn blocks_of(code: &Code) -> &[Block]
     ensures { result.now ≡ code.now.framed.blocks }
 {
     code.framed.blocks.as_slice()
@@ -93,14 +96,14 @@ fn entries_of(code: &Code) -> &[EncodedInstruction]
 }
 
 /// The address after its last word.
-fn end_of(code: &Code) -> u64
+pub fn end_of(code: &Code) -> u64
     ensures { result ≡ code.now.base + 4 * length code.now.words }
 {
     code.base + 4 * code.words.len() as u64
 }
 
 /// Tracks without ranges, of this count.
-fn new_tracks(alloc: Global, count: usize) -> Result<Vec<Track>, AllocError>
+pub fn new_tracks(alloc: Global, count: usize) -> Result<Vec<Track>, AllocError>
     ensures count { IfOk result (λ tracks. length tracks.items ≡ count) }
     ensures new { IfOk result (λ tracks. All IsNew tracks.items) }
 {
@@ -142,6 +145,7 @@ fn past_entries(
         places: vec![in alloc; None; values.variables.len()]?,
         changed: vec![in alloc; false; values.variables.len()]?,
         turned: false,
+        seen: None,
         tracks,
     };
     for entry in entries {
@@ -153,21 +157,22 @@ fn past_entries(
         places: _,
         changed: _,
         turned: _,
+        seen: _,
         tracks,
     } = walk;
     Ok(tracks)
 }
 
 /// The index of an entry's block.
-fn block_of(entry: &EncodedInstruction) -> usize
+pub fn block_of(entry: &EncodedInstruction) -> usize
     ensures { result ≡ entry.now.point.block }
 {
     entry.point.block.number() as usize
 }
 
 impl Walk {
-    /// Steps over an entry.
-    fn pass(
+    /// Steps over an entry: its tracks turn at its address to the locations that are required there. The error is out of memory.
+    pub fn pass(
         self,
         alloc: Global,
         values: &Values,
@@ -197,12 +202,26 @@ impl Walk {
             mut places,
             mut changed,
             turned,
+            seen,
             mut tracks,
         } = self;
         let block = block_of(entry);
         let items = blocks[block].items.as_slice();
         let item = entry.point.item as usize;
+        let from = stand.item;
+        let same = is_onward(&stand, block, item);
         let stand = move_to(alloc, values, index, stand, block, items, item)?;
+        if rests(&seen, &stand, same, from) {
+            return Ok(Walk {
+                stand,
+                firsts,
+                places,
+                changed,
+                turned,
+                seen,
+                tracks,
+            });
+        }
         let any = look_up(&stand, &mut firsts, &mut places, &mut changed)?;
         let found = places.as_slice();
         let flags = changed.as_slice();
@@ -216,19 +235,21 @@ impl Walk {
             &mut tracks,
             entry.address,
         )?;
+        let seen = see(alloc, &stand, seen, same)?;
         Ok(Walk {
             stand,
             firsts,
             places,
             changed,
             turned: true,
+            seen,
             tracks,
         })
     }
 }
 
 /// The ranges of each track, with the open ones closed at an address.
-fn close_all(alloc: Global, tracks: Vec<Track>, end: u64) -> Result<RangeLists, AllocError>
+pub fn close_all(alloc: Global, tracks: Vec<Track>, end: u64) -> Result<RangeLists, AllocError>
     ensures { IfOk result (Closes tracks.items end) }
 {
     let mut tracks = tracks;

@@ -1,14 +1,14 @@
 //! The walk over the items of a block.
 
-ghost use Rattle.std.specs.Prelude.{◌≡◌, ◌<◌, ◌≤◌, ◌+◌, ◌^◌, List, IfOk, OnOk, IsTrue, ◌↔◌, length};
+ghost use Rattle.std.specs.Prelude.{◌≡◌, ◌<◌, ◌≤◌, ◌+◌, ◌^◌, List, IfOk, OnOk, IsTrue, false, cond, ◌↔◌, length};
 ghost use Rattle.mir_func.specs.declared.block.Block.{Block};
 ghost use Rattle.mir_func.specs.Exits.{exit_of};
 ghost use Rattle.mir_func.specs.Graph.{Here};
 ghost use Rattle.mir_func.specs.Resolve.{resolve};
 ghost use Rattle.mir_func.specs.Successors.{pos_in};
 ghost use Rattle.value_tracker.specs.Things.{AreThings, Indexes};
-ghost use Rattle.value_tracker.specs.LocationTracker.{PLACES, Passes};
-ghost use Rattle.location_ranges.specs.Stands.{AreValuesOf, Stands, Fits, Falls, IsBlockAt, program};
+ghost use Rattle.value_tracker.specs.LocationTracker.{PLACES, Passes, is_mark};
+ghost use Rattle.location_ranges.specs.Stands.{AreValuesOf, Stands, Stays, Fits, Falls, IsBlockAt, program};
 
 use crate::values::Values;
 use mir_func::exit::Exit;
@@ -17,7 +17,7 @@ use std::alloc::{AllocError, Global};
 use value_tracker::class_location::constants;
 use value_tracker::index::TrackedIndex;
 use value_tracker::location_tracker::LocationTracker;
-use value_tracker::pass::Block as Fixed;
+use value_tracker::pass::{Block as Fixed, is_mark};
 use value_tracker::start::{settle, start};
 
 /// The state before an item (LLVM: `TransferTracker`).
@@ -35,6 +35,8 @@ pub struct TransferTracker {
     pub constants: Vec<Option<i64>>,
     /// The tracker's state before the item.
     pub held: LocationTracker,
+    /// The index behind the last debug value that was passed in the block, or 0.
+    pub marked: usize,
 }
 
 /// The state before the first item of a block. The error is out of memory.
@@ -71,6 +73,7 @@ pub fn enter(
         settled,
         constants,
         held,
+        marked: 0,
     })
 }
 
@@ -97,6 +100,7 @@ impl TransferTracker {
         ensures block { OnOk result (self.new.block ≡ self.old.block) }
         ensures item { OnOk result (self.new.item ≡ self.old.item + 1) }
         ensures fits { OnOk result (Fits self.new values.now) }
+        ensures stays { OnOk result (Stays self.old self.new) }
     {
         if !self.reached {
             self.item += 1;
@@ -115,6 +119,7 @@ impl TransferTracker {
             &item.kind,
         )?;
         self.item += 1;
+        self.marked = marked_past(&item.kind, self.marked, self.item);
         Ok(())
     }
 
@@ -135,12 +140,20 @@ impl TransferTracker {
         ensures block { OnOk result (self.new.block ≡ self.old.block) }
         ensures item { OnOk result (self.new.item ≡ to) }
         ensures fits { OnOk result (Fits self.new values.now) }
+        ensures stays { OnOk result (Stays self.old self.new) }
     {
         for k in self.item..to {
             self.pass(values, index, &items[k])?;
         }
         Ok(())
     }
+}
+
+/// The index behind the last debug value past an item that ends at an index.
+fn marked_past(kind: &ItemKind, marked: usize, end: usize) -> usize
+    ensures { result ≡ cond (is_mark kind.now) end marked }
+{
+    if is_mark(kind) { end } else { marked }
 }
 
 /// Steps over an item below which control may continue.
@@ -157,6 +170,7 @@ fn pass_held(
         (resolve values.now.subs.now) held.old held.new kind.now) }
     ensures places { OnOk result (length held.new.places.items ≡ PLACES) }
     ensures parts { OnOk result (length held.new.parts.items ≡ length values.now.variables.now) }
+    ensures stay { OnOk result (is_mark kind.now ≡ false → held.new.parts ≡ held.old.parts) }
 {
     let fixed = Fixed {
         index,
@@ -165,6 +179,16 @@ fn pass_held(
         subs: values.subs,
     };
     held.pass(&fixed, kind)
+}
+
+/// Whether an item is in the state's block, at its item or below.
+pub fn is_onward(stand: &TransferTracker, block: usize, item: usize) -> bool
+    ensures { IsTrue result ↔ ((stand.now.block ≡ block) × (stand.now.item ≤ item)) }
+{
+    if stand.block != block {
+        return false;
+    }
+    stand.item <= item
 }
 
 /// The state before an item: it advances from a state above it in the same block, and otherwise from the block's start.
@@ -190,6 +214,7 @@ pub fn move_to(
     ensures block { IfOk result (λ s. s.block ≡ block) }
     ensures item { IfOk result (λ s. s.item ≡ item) }
     ensures fits { IfOk result (λ s. Fits s values.now) }
+    ensures stays { IfOk result (λ s. stand.block ≡ block → stand.item ≤ item → Stays stand s) }
 {
     let mut stand = stand_in(alloc, values, index, stand, block, item)?;
     stand.advance(values, index, items, item)?;
@@ -215,10 +240,10 @@ fn stand_in(
     ensures block { IfOk result (λ s. s.block ≡ block) }
     ensures item { IfOk result (λ s. s.item ≤ item) }
     ensures fits { IfOk result (λ s. Fits s values.now) }
+    ensures same { IfOk result (λ s. stand.block ≡ block → stand.item ≤ item → s ≡ stand) }
 {
-    if stand.block == block && stand.item <= item {
-        Ok(stand)
-    } else {
-        Ok(enter(alloc, values, index, block)?)
+    if is_onward(&stand, block, item) {
+        return Ok(stand);
     }
+    Ok(enter(alloc, values, index, block)?)
 }

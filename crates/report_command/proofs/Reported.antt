@@ -1,8 +1,8 @@
 -- What is reported of a compilation is each of its functions, as it is compiled.
 use Rattle.std.proofs.Common.{ℕ, ◌+◌, List, [], ◌∷◌, length, refl}
 use Rattle.listing_text.specs.declared.output.ListedFunction.{ListedFunction}
-use Rattle.compile_theorem.specs.Source.{PassedFunction}
-use Rattle.read_program.specs.declared.program.Program.{Program}
+use Rattle.compile_program.specs.compile_theorem.Source.{PassedFunction}
+use Rattle.compile_program.specs.read_program.declared.program.Program.{Program}
 use Rattle.pass_list.specs.declared.kind.PassKind.{PassKind}
 use Rattle.compile_program.specs.Program.{CompiledFunction, AreCompiledAs, IsCompilationOf, names_of}
 use Rattle.compile_program.proofs.Compiled.{many}

@@ -2,8 +2,8 @@
 use Rattle.std.specs.Prelude.{◌≡◌, ℕ, List, [], ◌∷◌, length, map, All}
 use Rattle.listing_text.specs.declared.output.ListedFunction.{ListedFunction}
 use Rattle.dwarf_loclists.specs.Ranges.{Ascend}
-use Rattle.read_program.specs.declared.program.Program.{Program}
-use Rattle.compile_theorem.specs.Source.{PassedFunction}
+use Rattle.compile_program.specs.read_program.declared.program.Program.{Program}
+use Rattle.compile_program.specs.compile_theorem.Source.{PassedFunction}
 use Rattle.pass_list.specs.declared.kind.PassKind.{PassKind}
 use Rattle.compile_program.specs.Program.{CompiledFunction, ArePassed, AreCompiledAs, IsCompilationOf, names_of}
 use Rattle.compile_program.specs.declared.compile.Compilation.{Compilation}

@@ -9,15 +9,15 @@ use Rattle.dwarf_base.specs.Limits.{SECTION_LIMIT}
 use Rattle.dwarf_loclists.specs.declared.range.Range.{Range}
 use Rattle.dwarf_loclists.specs.Ranges.{Ascend, ArePlaces}
 use Rattle.mir_func.specs.declared.variable.VarId.{VarId}
-use Rattle.compile_theorem.proofs.Functions.{words_length}
-use Rattle.compile_theorem.specs.Compiled.{AreCompiled}
-use Rattle.compile_theorem.specs.OutputProperties.{variable_lines, variable_listed}
-use Rattle.compile_theorem.specs.Source.{PassedFunction}
-use Rattle.read_program.specs.declared.program.Program.{Program}
+use Rattle.compile_program.proofs.compile_theorem.Functions.{words_length}
+use Rattle.compile_program.specs.compile_theorem.Compiled.{AreCompiled}
+use Rattle.compile_program.specs.compile_theorem.OutputProperties.{variable_lines, variable_listed}
+use Rattle.compile_program.specs.compile_theorem.Source.{PassedFunction}
+use Rattle.compile_program.specs.read_program.declared.program.Program.{Program}
 use Rattle.pass_list.specs.declared.kind.PassKind.{PassKind}
 use Rattle.compile_program.specs.Program.{CompiledFunction, AreCompiledAs, IsCompilationOf, names_of, text_of, lists_of}
 use Rattle.compile_program.specs.declared.compile.Compilation.{Compilation}
-use Rattle.dwarf_unit.specs.Variables.{variables_of_function}
+use Rattle.compile_program.specs.dwarf_unit.Variables.{variables_of_function}
 use Rattle.compile_program.proofs.Compiled.{ends, all_compiled, all_writable, as_many_compiled}
 use Rattle.run_command.specs.Runs.{CanRun, CompilationsCanRun}
 

@@ -8,23 +8,23 @@ use Rattle.listing_text.specs.declared.output.Output.{Output}
 use Rattle.dwarf_loclists.specs.declared.range.Range.{Range}
 use Rattle.dwarf_loclists.specs.Grammar.{IsSection}
 use Rattle.frame_rule.specs.Rule.{framed_of}
-use Rattle.machine_steps_proof.specs.Images.{IsImageOf}
-use Rattle.compile_theorem.proofs.Functions.{IsCompiledIn, compiled_in}
-use Rattle.compile_theorem.proofs.Headline.{formed, unfixed}
-use Rattle.compile_theorem.proofs.Telling.{all_at}
-use Rattle.compile_theorem.specs.Compiled.{AreCompiled, IsCompiledProgram, bytes_of}
-use Rattle.compile_theorem.specs.OutputProperties.{variable_lines}
-use Rattle.compile_theorem.specs.Source.{PassedFunction, IsPassedFunction}
+use Rattle.compile_program.specs.machine_steps_proof.Images.{IsImageOf}
+use Rattle.compile_program.proofs.compile_theorem.Functions.{IsCompiledIn, compiled_in}
+use Rattle.compile_program.proofs.compile_theorem.Headline.{formed, unfixed}
+use Rattle.compile_program.proofs.compile_theorem.Telling.{all_at}
+use Rattle.compile_program.specs.compile_theorem.Compiled.{AreCompiled, IsCompiledProgram, bytes_of}
+use Rattle.compile_program.specs.compile_theorem.OutputProperties.{variable_lines}
+use Rattle.compile_program.specs.compile_theorem.Source.{PassedFunction, IsPassedFunction}
 use Rattle.pass_list.specs.declared.kind.PassKind.{PassKind}
 use Rattle.compile_program.proofs.Passed.{all_passed}
-use Rattle.read_program.specs.declared.program.Program.{Program}
+use Rattle.compile_program.specs.read_program.declared.program.Program.{Program}
 use Rattle.compile_program.specs.Program.{CompiledFunction, AreCompiledAs, IsCompilationOf, names_of, lists_of}
 use Rattle.compile_program.specs.declared.compile.Compilation.{Compilation}
-use Rattle.sim_machine.specs.Shown.{ShowsCode}
-use Rattle.listing_meaning.proofs.Images.{image_shown}
-use Rattle.listing_meaning.specs.Program.{image_of}
-use Rattle.sim_proof.proofs.Shows.{images_show_code}
-use Rattle.dwarf_unit.specs.Variables.{variables_of_function}
+use Rattle.sim_start.specs.sim_machine.Shown.{ShowsCode}
+use Rattle.compile_program.proofs.listing_meaning.Images.{image_shown}
+use Rattle.compile_program.specs.listing_meaning.Program.{image_of}
+use Rattle.sim_start.proofs.sim_proof.Shows.{images_show_code}
+use Rattle.compile_program.specs.dwarf_unit.Variables.{variables_of_function}
 use Rattle.invariance_code.proofs.Settled.{same_layout}
 use Rattle.compile_program.proofs.Compiled.{all_compiled}
 use Rattle.run_command.specs.Runs.{CompilationsShowCode}

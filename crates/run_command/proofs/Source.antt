@@ -21,22 +21,22 @@ use Rattle.dwarf_loclists.specs.Ranges.{location_in}
 use Rattle.mir_func.specs.declared.variable.VarId.{VarId}
 use Rattle.sem_mir.specs.Align.{Tells}
 use Rattle.sem_mir.specs.State.{State}
-use Rattle.read_program.specs.declared.closing.Parsed.{Parsed}
-use Rattle.read_program.specs.declared.program.Program.{Program}
-use Rattle.compile_theorem.proofs.Headline.{compiled_promises}
-use Rattle.compile_theorem.proofs.LaidOut.{compiled_is_laid_out}
-use Rattle.compile_theorem.proofs.Telling.{all_at}
-use Rattle.compile_theorem.specs.Laws.{AreCompiledTo}
-use Rattle.compile_theorem.specs.OutputProperties.{Gives, IsLaidOut, AreLaidOut, MeetsHeadline, Promises}
-use Rattle.compile_theorem.specs.Source.{SourceFunction, OfEach, sources_among}
+use Rattle.compile_program.specs.read_program.declared.closing.Parsed.{Parsed}
+use Rattle.compile_program.specs.read_program.declared.program.Program.{Program}
+use Rattle.compile_program.proofs.compile_theorem.Headline.{compiled_promises}
+use Rattle.compile_program.proofs.compile_theorem.LaidOut.{compiled_is_laid_out}
+use Rattle.compile_program.proofs.compile_theorem.Telling.{all_at}
+use Rattle.compile_program.specs.compile_theorem.Laws.{AreCompiledTo}
+use Rattle.compile_program.specs.compile_theorem.OutputProperties.{Gives, IsLaidOut, AreLaidOut, MeetsHeadline, Promises}
+use Rattle.compile_program.specs.compile_theorem.Source.{SourceFunction, OfEach, sources_among}
 use Rattle.pass_list.specs.declared.kind.PassKind.{PassKind}
 use Rattle.compile_program.proofs.Passed.{all_passed, passed_sources}
 use Rattle.compile_program.specs.declared.compile.Compilation.{Compilation}
 use Rattle.compile_program.specs.Program.{sources_of, IsCompilationOf, IsOutputOf, steps_of, source_of, names_of, lists_of}
-use Rattle.sim_trace.specs.Variables.{variable_of}
-use Rattle.sim_machine.specs.Shown.{ShowsCode}
-use Rattle.listing_meaning.specs.Program.{image_of}
-use Rattle.dwarf_unit.specs.Variables.{whole}
+use Rattle.sim_start.specs.sim_trace.Variables.{variable_of}
+use Rattle.sim_start.specs.sim_machine.Shown.{ShowsCode}
+use Rattle.compile_program.specs.listing_meaning.Program.{image_of}
+use Rattle.compile_program.specs.dwarf_unit.Variables.{whole}
 use Rattle.location_of_variable.specs.Groups.{part_of}
 use Rattle.location_of_variable.specs.VariableLocation.{bytes_of}
 use Rattle.run_command.proofs.Runs.{compilation_can_run}

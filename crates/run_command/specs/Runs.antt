@@ -5,14 +5,14 @@ use Rattle.listing_text.specs.declared.output.ListedFunction.{ListedFunction}
 use Rattle.listing_text.specs.declared.output.ListedVariable.{ListedVariable}
 use Rattle.dwarf_loclists.specs.declared.range.Range.{Range}
 use Rattle.dwarf_loclists.specs.Ranges.{Ascend, ArePlaces}
-use Rattle.read_program.specs.declared.program.Program.{Program}
+use Rattle.compile_program.specs.read_program.declared.program.Program.{Program}
 use Rattle.pass_list.specs.declared.kind.PassKind.{PassKind}
 use Rattle.compile_program.specs.Program.{CompiledFunction, IsCompilationOf, lists_of}
 pub use Rattle.compile_program.specs.declared.compile.Compilation.{Compilation}
 use Rattle.sim_start.specs.InitialMachine.{IsTextOfAskedRun}
-use Rattle.sim_trace.specs.Variables.{variable_of}
-use Rattle.sim_machine.specs.Shown.{ShowsCode}
-use Rattle.listing_meaning.specs.Program.{image_of}
+use Rattle.sim_start.specs.sim_trace.Variables.{variable_of}
+use Rattle.sim_start.specs.sim_machine.Shown.{ShowsCode}
+use Rattle.compile_program.specs.listing_meaning.Program.{image_of}
 
 -- no function has the name
 abbrev pub HasNone : (name : List ℕ) → List ListedFunction → Type 0

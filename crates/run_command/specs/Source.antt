@@ -13,24 +13,23 @@ use Rattle.dwarf_loclists.specs.declared.range.Location.TheVariants.{Whole, Part
 use Rattle.dwarf_loclists.specs.declared.range.Range.{Range}
 use Rattle.dwarf_loclists.specs.Grammar.{IsSection}
 use Rattle.dwarf_loclists.specs.Ranges.{location_in}
-use Rattle.pass_trait.specs.Steps.{PassStep}
 use Rattle.mir_func.specs.declared.variable.VarId.{VarId}
 use Rattle.mir_func.specs.Function.{Function}
 use Rattle.mir_func.specs.Graph.{Program as Graph, program_of}
 use Rattle.mir_func.specs.Resolve.{resolve}
 use Rattle.sem_mir.specs.Align.{Since, Tells}
 use Rattle.sem_mir.specs.State.{State}
-use Rattle.read_program.specs.declared.closing.Parsed.{Parsed}
-use Rattle.read_program.specs.declared.program.Program.{Program}
-use Rattle.compile_theorem.specs.Source.{SourceFunction}
+use Rattle.compile_program.specs.read_program.declared.closing.Parsed.{Parsed}
+use Rattle.compile_program.specs.read_program.declared.program.Program.{Program}
+use Rattle.compile_program.specs.compile_theorem.Source.{SourceFunction}
 use Rattle.pass_list.specs.declared.kind.PassKind.{PassKind}
 use Rattle.compile_program.specs.declared.compile.Compilation.{Compilation}
-use Rattle.compile_program.specs.Program.{IsCompilationOf, IsOutputOf, steps_of, source_of}
+use Rattle.compile_program.specs.Program.{ExposedSteps, IsCompilationOf, IsOutputOf, steps_of, source_of}
 use Rattle.sim_start.specs.InitialMachine.{start_register, replies}
-use Rattle.sim_trace.specs.Run.{IsRunText}
-use Rattle.sim_trace.specs.Variables.{variable_of}
-use Rattle.listing_meaning.specs.Program.{image_of}
-use Rattle.dwarf_unit.specs.Variables.{whole}
+use Rattle.sim_start.specs.sim_trace.Run.{IsRunText}
+use Rattle.sim_start.specs.sim_trace.Variables.{variable_of}
+use Rattle.compile_program.specs.listing_meaning.Program.{image_of}
+use Rattle.compile_program.specs.dwarf_unit.Variables.{whole}
 use Rattle.location_of_variable.specs.Groups.{part_of}
 use Rattle.location_of_variable.specs.VariableLocation.{bytes_of}
 use Rattle.run_command.specs.Runs.{HasNone, IsRunOf}
@@ -89,7 +88,7 @@ TellsSource source image f lists = (s0 : State) → StartsAt source.function s0 
 -- The text is that of a run of the first function with a name. There is an output, compiled of what steps of passes made of the program. The text is
 -- that of the machine's run on the function's image in this output, with the variables by their location lists in the output, and the values of
 -- variables are the source's.
-pub record IsRunOfProgram (steps : List PassStep) (p : Program) (name : List ℕ) (limit : ℕ) (addresses : List (Symbol × ℕ))
+pub record IsRunOfProgram (steps : ExposedSteps) (p : Program) (name : List ℕ) (limit : ℕ) (addresses : List (Symbol × ℕ))
     (arguments values text : List ℕ) : Type 0 where
   pub number : ℕ
   pub read : IsFirstRead name p.functions number

@@ -3,7 +3,7 @@
 ghost use Rattle.std.specs.Prelude.{◌≡◌, ◌↔◌, IsTrue};
 ghost use Rattle.run_command.specs.Source.{IsUnknown};
 
-use read_program::closing::Parsed;
+use compile_program::read_program_crate::closing::Parsed;
 
 /// Whether no function that was read has the name.
 pub fn is_unknown(functions: &[Parsed], name: &[u8]) -> bool

@@ -9,8 +9,8 @@ use listing_text::output::ListedFunction;
 use mir_printer::text::Text;
 use rv64_instr::start::Values;
 use rv64_instr::symbol::SymbolAddresses;
+use sim_start::sim_trace_crate::variable::variables_of;
 use sim_start::text::run_text;
-use sim_trace::variable::variables_of;
 use std::alloc::{AllocError, Global};
 
 /// The text of a run, for at most `limit` steps, of the first function with a name, with these addresses of symbols,

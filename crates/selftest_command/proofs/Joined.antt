@@ -3,6 +3,7 @@ use Rattle.std.proofs.Common.{◌≡◌, ℕ, zero, suc, ◌+◌, ◌*◌, ◌<�
 use Rattle.std.proofs.Common.{◌∙◌, subst, arith, append-nil}
 use Rattle.std.specs.Prelude.{slice_get, true, false, IfSome, IfNone}
 use Rattle.std.proofs.lemmas.List.Elements.{All-nil, All-cons, All-head, All-tail, All-weaker}
+use Rattle.mir_exposure.specs.declared.exposure.Exposure.TheVariants.{Nothing}
 use Rattle.rv64_instr.specs.declared.place.Place.{Place}
 use Rattle.std.specs.List.{flat_map}
 use Rattle.std.specs.Int.{w32, to_le_bytes}
@@ -10,21 +11,20 @@ use Rattle.emit_code.specs.Laid.{LaidCode}
 use Rattle.run_command.proofs.Passed.{all_passed, passed_sources}
 use Rattle.run_command.proofs.Runs.{compilation_can_run}
 use Rattle.run_command.proofs.Shown.{compiled_whole, compilation_shows_code}
-use Rattle.run_command.specs.Program.{CompiledFunction, HasLargeFrame, HasLargeSection}
+use Rattle.run_command.specs.Program.{ExposedSteps, CompiledFunction, HasLargeFrame, HasLargeSection}
 use Rattle.run_command.specs.Runs.{Compilation}
 use Rattle.run_command.specs.Program.{ArePassed, IsCompiledAs, AreCompiledAs, sources_of, IsCompilationOf, IsOutputOf, HasVirtualRegister}
 use Rattle.run_command.specs.Program.{names_of, source_of, text_of, lists_of, IsCompilable, steps_of}
 use Rattle.listing_text.specs.declared.output.ListedFunction.{ListedFunction}
 use Rattle.listing_text.specs.declared.output.ListedVariable.{ListedVariable}
-use Rattle.selftest_count.specs.Runs.{GoApart}
-use Rattle.selftest_count.specs.Text.{MAX_STEPS, IsSelfTest}
+use Rattle.selftest_proof.specs.selftest_count.Runs.{GoApart}
+use Rattle.selftest_proof.specs.selftest_count.Text.{MAX_STEPS, IsSelfTest}
 use Rattle.dwarf_loclists.specs.declared.range.Location.{Location}
 use Rattle.dwarf_loclists.specs.declared.range.Location.TheVariants.{Whole, Parts}
 use Rattle.dwarf_loclists.specs.declared.range.Part.{Part}
 use Rattle.dwarf_loclists.specs.declared.range.Range.{Range}
 use Rattle.dwarf_loclists.specs.Grammar.{IsSection, LocationAt}
 use Rattle.dwarf_loclists.specs.Ranges.{Ascend, ArePlaces, location_in}
-use Rattle.pass_trait.specs.Steps.{PassStep}
 use Rattle.gen_program.specs.Program.{generated_program}
 use Rattle.gen_program.specs.Laws.{MarksWhole}
 use Rattle.gen_program.proofs.Made.{IsMadeBlock}
@@ -45,18 +45,18 @@ use Rattle.mir_func.specs.Resolve.{resolve}
 use Rattle.mir_func.specs.Sound.{AllItems}
 use Rattle.gen_function.specs.Generator.{generated}
 use Rattle.sem_mir.specs.Follow.{Shape}
-use Rattle.read_program.specs.declared.closing.Parsed.{Parsed}
-use Rattle.read_program.specs.declared.program.Program.{Program}
+use Rattle.gen_program.specs.read_program.declared.closing.Parsed.{Parsed}
+use Rattle.gen_program.specs.read_program.declared.program.Program.{Program}
 use Rattle.sem_interpreter.specs.StandsFor.{AreCounted}
-use Rattle.compile_theorem.proofs.Functions.{words_length}
-use Rattle.compile_theorem.proofs.Headline.{compiled_promises}
-use Rattle.compile_theorem.proofs.Variables.{own_marks}
-use Rattle.compile_theorem.specs.OutputProperties.{Gives, MeetsHeadline, Promises, variable_lines, variable_listed}
-use Rattle.compile_theorem.specs.Source.{SourceFunction, PassedFunction, MarksOneOf}
+use Rattle.run_command.proofs.compile_theorem.Functions.{words_length}
+use Rattle.run_command.proofs.compile_theorem.Headline.{compiled_promises}
+use Rattle.run_command.proofs.compile_theorem.Variables.{own_marks}
+use Rattle.run_command.specs.compile_theorem.OutputProperties.{Gives, MeetsHeadline, Promises, variable_lines, variable_listed}
+use Rattle.run_command.specs.compile_theorem.Source.{SourceFunction, PassedFunction, MarksOneOf}
 use Rattle.pass_list.specs.declared.kind.PassKind.{PassKind}
-use Rattle.sim_machine.specs.Shown.{ShowsCode}
-use Rattle.listing_meaning.specs.Program.{image_of}
-use Rattle.dwarf_unit.specs.Variables.{whole, variables_of_function}
+use Rattle.selftest_proof.specs.sim_machine.Shown.{ShowsCode}
+use Rattle.run_command.specs.listing_meaning.Program.{image_of}
+use Rattle.run_command.specs.dwarf_unit.Variables.{whole, variables_of_function}
 use Rattle.location_of_variable.specs.Groups.{part_of}
 use Rattle.location_of_variable.specs.VariableLocation.{bytes_of as piece_bytes}
 use Rattle.selftest_command.specs.steps.First.{TestsFirst, FirstGoesApart}
@@ -141,7 +141,7 @@ module _ (number count : ℕ) (some : 1 ≤ count) (few : count ≤ 512) (reserv
   source = generated number count
 
   abbrev parsed : Parsed
-  parsed = record { func = source; subs = [] }
+  parsed = record { func = source; subs = []; pool = []; exposure = Nothing }
 
   abbrev names : ℕ → List ℕ
   names = names_of program.meta
@@ -318,7 +318,7 @@ block_counted b m = let few = m.few in omega (arith, few)
 pub is_counted : (number count : ℕ) → count ≤ 512 → All (λ (p : Parsed). AreCounted p.func.blocks) (generated_program number count).functions
 is_counted number count few =
     let P : Parsed → Type 0 = λ p. AreCounted p.func.blocks in
-    let parsed : Parsed = record { func = generated number count; subs = [] } in
+    let parsed : Parsed = record { func = generated number count; subs = []; pool = []; exposure = Nothing } in
     All-cons P parsed [] (All-weaker (IsMadeBlock TOP) (λ (b : Block). length b.items < 2 ^ 32) block_counted (generated number count).blocks
     (generated_made number count few)) (All-nil P)
 
@@ -334,10 +334,10 @@ module _ (number count : ℕ) (p : Program) (same : p ≡ generated_program numb
   pub virtual_of : (reserve : List ℕ) → HasVirtualRegister reserve p.functions → HasVirtualRegister reserve (generated_program number count).functions
   virtual_of reserve has = subst (λ (x : Program). HasVirtualRegister reserve x.functions) same has
 
-  pub frame_of : (steps : List PassStep) → HasLargeFrame steps p.functions → HasLargeFrame steps (generated_program number count).functions
+  pub frame_of : (steps : ExposedSteps) → HasLargeFrame steps p.functions → HasLargeFrame steps (generated_program number count).functions
   frame_of steps large = subst (λ (x : Program). HasLargeFrame steps x.functions) same large
 
-  pub section_of : (steps : List PassStep) → HasLargeSection steps p → HasLargeSection steps (generated_program number count)
+  pub section_of : (steps : ExposedSteps) → HasLargeSection steps p → HasLargeSection steps (generated_program number count)
   section_of steps large = subst (λ (x : Program). HasLargeSection steps x) same large
 
   module _ (some : 1 ≤ count) (few : count ≤ 512) (reserve : List ℕ) (passes : List PassKind) (c : Compilation) (is : IsCompilationOf reserve passes p c) where

@@ -17,7 +17,7 @@ use Rattle.frame_rule.specs.Rule.{framed_blocks, framed_of, size_of, saved_of}
 use Rattle.frame_rule.proofs.Rows.{renamed_row, row_renamed}
 use Rattle.gen_program.proofs.Steps.{IsMildRow, IsMild, item_in, fetched}
 use Rattle.sem_machine.specs.MachineStep.{call_of}
-use Rattle.sim_machine.specs.Shown.{entry_call, fetch_call, kind_call}
+use Rattle.selftest_proof.specs.sim_machine.Shown.{entry_call, fetch_call, kind_call}
 use Rattle.selftest_proof.specs.Together.{HasNoCall}
 use Rattle.mir_func.specs.declared.block.Block.{Block}
 use Rattle.mir_func.specs.declared.debug_substitution.OperandPair.{OperandPair}

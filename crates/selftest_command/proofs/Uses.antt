@@ -16,7 +16,7 @@ use Rattle.mir_func.specs.declared.variable.VarId.{VarId}
 use Rattle.mir_func.specs.Variables.{is_same_variable}
 use Rattle.sem_mir.proofs.Assignments.{same_variable_symmetric}
 use Rattle.dwarf_line_table.specs.Files.{with_new, first_uses}
-use Rattle.dwarf_unit.specs.Variables.{whole, marked, marks_of, variables_of_function}
+use Rattle.run_command.specs.dwarf_unit.Variables.{whole, marked, marks_of, variables_of_function}
 
 -- two variables differ
 abbrev Differ : VarId → VarId → Type 0

@@ -1,2 +1,3 @@
 pub mod Tested
 pub mod steps
+pub use Rattle.run_command.specs as run_command

@@ -1,16 +1,16 @@
 -- The self-test of a generated function.
 use Rattle.std.specs.Prelude.{◌≡◌, ℕ, ◌*◌, ◌≤◌, List, [], ◌∷◌, length}
 use Rattle.listing_text.specs.declared.output.ListedFunction.{ListedFunction}
-use Rattle.selftest_count.specs.Text.{IsSelfTest}
+use Rattle.selftest_proof.specs.selftest_count.Text.{IsSelfTest}
 use Rattle.gen_program.specs.Program.{generated_program}
 use Rattle.mir_func.specs.Resolve.{resolve}
 use Rattle.gen_function.specs.Generator.{generated}
 use Rattle.pass_list.specs.declared.kind.PassKind.{PassKind}
 use Rattle.run_command.specs.Program.{CompiledFunction, IsCompilationOf, IsOutputOf, steps_of}
 use Rattle.run_command.specs.Runs.{Compilation}
-use Rattle.sim_machine.specs.Shown.{ShowsCode}
-use Rattle.listing_meaning.specs.Program.{image_of}
-use Rattle.dwarf_unit.specs.Variables.{variables_of_function}
+use Rattle.selftest_proof.specs.sim_machine.Shown.{ShowsCode}
+use Rattle.run_command.specs.listing_meaning.Program.{image_of}
+use Rattle.run_command.specs.dwarf_unit.Variables.{variables_of_function}
 
 -- The text is that of a self-test of the generated function: it is compiled with passes, with `reserve` as the registers that may be spilled, and its
 -- machine code, which is that of the output, runs in lockstep with it for at most 10,000 steps. The text has the number of items of the function, the

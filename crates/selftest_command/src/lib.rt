@@ -3,4 +3,6 @@
 //! source knows.
 #![tactic(auto)]
 
+pub use run_command as run_command_crate;
+
 pub mod text;

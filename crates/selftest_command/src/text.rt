@@ -6,7 +6,7 @@ ghost use Rattle.selftest_proof.specs.Together.{RunsLong};
 ghost use Rattle.gen_program.specs.Program.{generated_program};
 ghost use Rattle.mir_func.specs.Resolve.{resolve};
 ghost use Rattle.gen_function.specs.Generator.{generated};
-ghost use Rattle.read_program.specs.declared.closing.Parsed.{Parsed};
+ghost use Rattle.gen_program.specs.read_program.declared.closing.Parsed.{Parsed};
 ghost use Rattle.run_command.specs.Program.{CompiledFunction};
 ghost use Rattle.sem_interpreter.specs.StandsFor.{AreCounted};
 ghost use Rattle.pass_list.specs.Names.{AreDistinct};
@@ -14,15 +14,15 @@ ghost use Rattle.run_command.specs.Program.{HasVirtualRegister, HasLargeFrame, H
 ghost use Rattle.selftest_command.specs.Tested.{IsSelfTestOf};
 ghost use Rattle.selftest_command.specs.steps.First.{TestsFirst, FirstGoesApart};
 
-use dwarf_unit::variables::variables;
 use gen_program::program::generated_program;
+use gen_program::read_program_crate::program::Program;
 use mir_printer::text::Text;
 use pass_list::kind::PassKind;
-use read_program::program::Program;
 use run_command::compile::{Compilation, compile};
+use run_command::dwarf_unit_crate::variables::variables;
 use run_command::error::CompileError;
 use rv64_instr::reg::Reg;
-use selftest_count::text::self_test_text;
+use selftest_proof::selftest_count_crate::text::self_test_text;
 use std::alloc::{AllocError, Global};
 
 /// The text of a self-test of the function that is generated from a number, with `blocks` blocks: it is compiled with

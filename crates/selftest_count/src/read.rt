@@ -6,7 +6,7 @@ ghost use Rattle.selftest_count.specs.Counts.{values_of, read_at};
 ghost use Rattle.selftest_count.specs.steps.Bounds.{CanBeRead};
 
 use dwarf_loclists::range::{Location, Ranges};
-use sim_trace::location::location_at;
+use sim_start::sim_trace_crate::location::location_at;
 
 /// The number of values in location lists at an address: one for a whole variable, and one for each piece.
 pub fn reads(lists: &[Ranges], address: u64) -> u128

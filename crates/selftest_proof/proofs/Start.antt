@@ -16,8 +16,8 @@ use Rattle.sem_machine.specs.Headline.{StartsAt}
 use Rattle.sem_machine.specs.Image.{Image}
 use Rattle.sem_machine.specs.Machine.{register, machine_start}
 use Rattle.emit_code.specs.Laid.{LaidCode}
-use Rattle.sim_machine.specs.Shown.{ShowsCode}
-use Rattle.sim_start.specs.InitialMachine.{start_register, BeginsRun}
+use Rattle.selftest_count.specs.sim_machine.Shown.{ShowsCode}
+use Rattle.selftest_count.specs.sim_start.InitialMachine.{start_register, BeginsRun}
 use Rattle.selftest_count.specs.Runs.{BeginsSource}
 
 abbrev pub start_regs : ℕ → Option ℕ

@@ -23,7 +23,7 @@ use Rattle.sem_machine.specs.Machine.{Machine, machine_start}
 use Rattle.sem_machine.specs.MachineStep.{machine_step, does_at, Comes, there, steps, IsWell, Leaves}
 use Rattle.emit_code.specs.declared.code.EncodedInstruction.{EncodedInstruction}
 use Rattle.emit_code.specs.Laid.{LaidCode}
-use Rattle.sim_machine.specs.Shown.{entry_at, entry_call}
+use Rattle.selftest_count.specs.sim_machine.Shown.{entry_at, entry_call}
 use Rattle.selftest_count.specs.declared.counts.Counts.{Counts}
 use Rattle.selftest_count.specs.Apart.{MAX_SOURCE_STEPS, Misses, makes_all, halts, goes_on, MissesNext}
 use Rattle.selftest_count.specs.Apart.{IsApart, at_no_line, at_call, source_misses, stops_badly}

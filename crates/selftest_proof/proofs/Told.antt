@@ -18,7 +18,7 @@ use Rattle.dwarf_loclists.specs.declared.range.Range.{Range}
 use Rattle.dwarf_loclists.specs.Ranges.{IsLocated, ArePieces, ArePlaces, location_in}
 use Rattle.location_of_variable.specs.Groups.{part_of}
 use Rattle.location_of_variable.specs.VariableLocation.{bytes_of}
-use Rattle.sim_machine.proofs.Listed.{located}
+use Rattle.selftest_count.proofs.sim_machine.Listed.{located}
 use Rattle.selftest_count.specs.Counts.{values_of, read_at}
 use Rattle.selftest_proof.specs.Known.{IsGiven}
 use Rattle.selftest_proof.proofs.Fits.{Apart, apart_append, Passes}

@@ -18,7 +18,7 @@ use Rattle.location_of_variable.specs.VariableLocation.{bytes_of}
 use Rattle.sem_machine.specs.Headline.{Headline}
 use Rattle.sem_machine.specs.Image.{Image}
 use Rattle.emit_code.specs.Laid.{LaidCode}
-use Rattle.sim_machine.specs.Shown.{ShowsCode}
+use Rattle.selftest_count.specs.sim_machine.Shown.{ShowsCode}
 use Rattle.selftest_count.specs.declared.counts.Counts.{Counts}
 use Rattle.selftest_count.specs.Runs.{AreCountsOf}
 

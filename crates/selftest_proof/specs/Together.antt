@@ -12,7 +12,7 @@ use Rattle.sem_machine.specs.Headline.{Headline}
 use Rattle.sem_machine.specs.Image.{Image}
 use Rattle.emit_code.specs.declared.code.EncodedInstruction.{EncodedInstruction}
 use Rattle.emit_code.specs.Laid.{LaidCode}
-use Rattle.sim_machine.specs.Shown.{ShowsCode, entry_call}
+use Rattle.selftest_count.specs.sim_machine.Shown.{ShowsCode, entry_call}
 use Rattle.selftest_count.specs.Apart.{MAX_SOURCE_STEPS}
 use Rattle.selftest_count.specs.Runs.{BeginsSource, GoApart}
 

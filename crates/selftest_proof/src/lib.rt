@@ -2,4 +2,6 @@
 //! the source, so no more values are read than are known.
 #![tactic(auto)]
 
+pub use selftest_count as selftest_count_crate;
+
 pub mod laws;

@@ -4,7 +4,7 @@ use Rattle.std.proofs.Common.{cond, nat_eq, nat_lt, IsTrue}
 use Rattle.std.proofs.Common.{◌⊎◌, inl, inr, ◌++◌, append_assoc, refl, sym, ap, ◌∙◌, subst, arith}
 use Rattle.std.specs.List.{All, list_all, cons_option}
 use Rattle.std.proofs.Math.Seq.{drop-cons}
-use Rattle.std.proofs.lemmas.Bool.{ltb-true, and_parts, ne_eqb}
+use Rattle.std.proofs.lemmas.Bool.{ltb-true, and_parts}
 use Rattle.std.proofs.lemmas.List.Elements.{All-nil, All-cons}
 use Rattle.rv64_instr.specs.declared.op.Op.{Op}
 use Rattle.rv64_instr.specs.declared.op.Op.TheVariants.{Registers, Immediate, Lui, Branch, Load, Store, Copy}
@@ -18,16 +18,16 @@ use Rattle.rv64_instr.specs.declared.op.LoadOp.{LoadOp}
 use Rattle.rv64_instr.specs.declared.op.StoreOp.{StoreOp}
 use Rattle.rv64_instr.specs.declared.operand.Operand.{Operand}
 use Rattle.rv64_instr.specs.declared.operand.Operand.TheVariants.{Def, Use, ImplicitDef, ImplicitUse, Imm, Slot, Object, Block, Symbol, Mask, Outgoing}
-use Rattle.rv64_instr.proofs.Tails.{held_callee}
-use Rattle.rv64_instr.specs.Form.{is_argument, is_call_register, has_form, fits_call, fits_held_call}
+use Rattle.rv64_instr.specs.Form.{is_argument, has_form, fits_call, fits_held_call}
 use Rattle.rv64_instr.specs.Instruction.{Instruction}
 use Rattle.rv64_instr.specs.LocationEffects.{is_call}
 use Rattle.rv64_instr.specs.Row.{Calls, row_of, row_by, implicit_uses, outgoing_words, registers_row, number_row, immediate_row, object_row, add_row}
 use Rattle.rv64_instr.specs.Row.{move_row, upper_row}
-use Rattle.rv64_instr.specs.Row.{branch_row, load_row, store_row, copy_row, jump_row, held_call, held_tail}
+use Rattle.rv64_instr.specs.Row.{branch_row, load_row, store_row, copy_row, jump_row, held_tail}
 use Rattle.rv64_instr.specs.Row.{held_gone, tail_row, gone_row, CallSite, Callee, Named, Held}
 use Rattle.rv64_instr.specs.declared.start.CallEvent.{CallEvent}
 use Rattle.rv64_instr.specs.declared.start.CallTarget.{CallTarget}
+use Rattle.mir_func.specs.SoundFrame.{IsPhysical}
 use Rattle.sem_mir.specs.State.{spelled}
 use Rattle.sem_machine.specs.Machine.{Machine, register, set_in, set_all_in, address_of}
 use Rattle.sem_machine.specs.MachineStep.{call_of, called_at, passed, word_content, words_from}
@@ -152,14 +152,14 @@ arguments_low [] h = All-nil (λ (r : ℕ). r < 32)
 arguments_low (a ∷ rest) h =
     let p = and_parts (is_argument a) (list_all is_argument rest) h in argument_low a rest p.0 (arguments_low rest p.1)
 
--- the operands of a call: the callee, and others that use no register beyond x31
+-- the operands of a call: the callee, and others that use no register beyond x31, where the callee's is one of these too
 pub record CallForm (op : Op) (operands : List Operand) : Type 0 where
   pub callee : Callee
   pub first : Operand
   pub rest : List Operand
   pub are : operands ≡ first ∷ rest
   pub named : callee_named first ≡ Some callee
-  pub names : NamesCallee first
+  pub names : IsPhysical first → NamesCallee first
   pub row : row_by op operands ≡ Calls (record { callee = callee; args = implicit_uses rest; outgoing = outgoing_words rest })
   pub low : All (λ r. r < 32) (implicit_uses rest)
 
@@ -170,28 +170,23 @@ call_form_of (Symbol name ∷ Mask ∷ rest) t = record {
   rest = Mask ∷ rest;
   are = refl;
   named = refl;
-  names = tt;
+  names = λ physical. tt;
   row = refl;
   low = arguments_low rest t;
 }
 call_form_of _ t = absurd cc
 
--- x2 is no callee
 held_form_of : (operands : List Operand) → IsTrue (fits_held_call operands) → CallForm PseudoCallIndirect operands
-held_form_of (ImplicitUse r ∷ Mask ∷ rest) t =
-    let p = and_parts (is_call_register r) (list_all is_argument rest) t in
-    let low = held_callee r p.0 in
-    record {
-      callee = Held r;
-      first = ImplicitUse r;
-      rest = Mask ∷ rest;
-      are = refl;
-      named = refl;
-      names = low.1;
-      row = ap (λ (b : Bool). held_call (cond b (implicit_uses rest) (r ∷ implicit_uses rest)) (outgoing_words rest))
-          (ne_eqb r 2 low.0);
-      low = arguments_low rest p.1;
-    }
+held_form_of (Use r ∷ Mask ∷ rest) t = record {
+  callee = Held r;
+  first = Use r;
+  rest = Mask ∷ rest;
+  are = refl;
+  named = refl;
+  names = λ physical. physical;
+  row = refl;
+  low = arguments_low rest t;
+}
 held_form_of _ t = absurd cc
 
 true_false : (b : Bool) → b ≡ true → b ≡ false → ⊥
@@ -210,7 +205,7 @@ pub call_form : (i : Instruction) → IsTrue (has_form i.op i.operands) → is_c
 call_form i t e = call_form_by i.op i.operands t e
 
 -- the form of a call, whose operands are known
-pub form_at : (op : Op) (operands : List Operand) (i : Instruction) → (let made : Instruction = record { op = op; operands = operands } in made) ≡ i →
+pub form_at : {volatile : Bool} (op : Op) (operands : List Operand) (i : Instruction) → (let made : Instruction = record { op = op; operands = operands; volatile = volatile } in made) ≡ i →
     IsTrue (has_form op operands) → is_call (row_of i) ≡ true → CallForm op operands
 form_at op operands i e t c = call_form_by op operands t (ap (λ (x : Instruction). is_call (row_of x)) e ∙ c)
 

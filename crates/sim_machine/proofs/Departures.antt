@@ -17,8 +17,8 @@ use Rattle.rv64_instr.specs.Arithmetic.{word}
 use Rattle.rv64_instr.specs.Form.{has_form, is_call_register, is_held_tail_register, is_held_tail_use, is_last_argument}
 use Rattle.rv64_instr.specs.Form.{fits_tail, fits_held_tail, fits_gone, fits_held_gone}
 use Rattle.rv64_instr.specs.Instruction.{Instruction}
-use Rattle.rv64_instr.specs.Row.{row_of, row_by, implicit_uses, outgoing_words, immediate_row, object_row, add_row, move_row}
-use Rattle.rv64_instr.specs.Row.{held_call, held_tail, held_gone, Callee, Named, Held, Ending, Tail, Never}
+use Rattle.rv64_instr.specs.Row.{row_of, row_by, implicit_uses, immediate_row, object_row, add_row, move_row}
+use Rattle.rv64_instr.specs.Row.{held_tail, held_gone, Callee, Named, Held, Ending, Tail, Never}
 use Rattle.rv64_instr.proofs.Tails.{IsTailRegister, tail_callee, callee_low, held_callee}
 use Rattle.sem_machine.specs.Machine.{Machine}
 use Rattle.sem_machine.specs.MachineStep.{called_at, left_by}
@@ -126,7 +126,7 @@ left_form NoReturnCallIndirect operands t is = held_gone_form operands t
 left_form _ operands t is = absurd cc
 
 -- the same of an instruction whose operands are known
-pub left_form_at : (op : Op) (operands : List Operand) (i : Instruction) → (let made : Instruction = record { op = op; operands = operands } in made) ≡ i →
+pub left_form_at : {volatile : Bool} (op : Op) (operands : List Operand) (i : Instruction) → (let made : Instruction = record { op = op; operands = operands; volatile = volatile } in made) ≡ i →
     IsTrue (has_form op operands) → is_leaving i.op ≡ true → LeftForm op operands
 left_form_at op operands i e t is = left_form op operands t (ap (λ (x : Instruction). is_leaving x.op) e ∙ is)
 
@@ -138,8 +138,8 @@ pub left_not_empty : (op : Op) (operands : List Operand) → LeftForm op operand
 left_not_empty op operands f none = let some = ap length f.are in omega (arith, some, none)
 
 -- what is called is what the function is left for
-pub left_told : {E : Type 0} (op : Op) (operands : List Operand) (i : Instruction) →
-    (let made : Instruction = record { op = op; operands = operands } in made) ≡ i → (f : LeftForm op operands) (first : Operand) → first ≡ f.first →
+pub left_told : {E : Type 0} {volatile : Bool} (op : Op) (operands : List Operand) (i : Instruction) →
+    (let made : Instruction = record { op = op; operands = operands; volatile = volatile } in made) ≡ i → (f : LeftForm op operands) (first : Operand) → first ≡ f.first →
     (h : Hart) (r : Result CallTarget E) →
     IfOk r (λ t. (s : Machine) (c : Callee) → StandsFor h s → callee_named first ≡ Some c → t ≡ called_at s c) →
     IfOk r (λ t. (s : Machine) (ending : Ending Callee) → StandsFor h s → left_by (row_of i) ≡ Some ending → Some t ≡ way_target s ending.way)
@@ -167,10 +167,6 @@ none_object : (op : ImmediateOp) (rd n offset : ℕ) → left_by (object_row op 
 none_object Addi rd n offset = refl
 none_object _ rd n offset = refl
 
-none_held : (uses outgoing : List ℕ) → left_by (held_call uses outgoing) ≡ None
-none_held [] outgoing = refl
-none_held (r ∷ rest) outgoing = refl
-
 none_left : (op : Op) (operands : List Operand) → IsTrue (has_form op operands) → is_leaving op ≡ false → left_by (row_by op operands) ≡ None
 none_left (Registers op) (Def rd ∷ Use a ∷ Use b ∷ rest) t is = refl
 none_left (Immediate op) (Def rd ∷ Use a ∷ Imm i ∷ rest) t is = none_immediate op rd a (word i)
@@ -191,10 +187,10 @@ none_left Copy (Def rd ∷ Use rs ∷ rest) t is = none_move rd rs
 none_left PseudoBr (Block target ∷ rest) t is = refl
 none_left PseudoCall (Symbol name ∷ rest) t is = refl
 none_left PseudoRet operands t is = refl
-none_left PseudoCallIndirect operands t is = none_held (implicit_uses operands) (outgoing_words operands)
+none_left PseudoCallIndirect (Use r ∷ rest) t is = refl
 none_left _ _ t is = absurd cc
 
-pub none_left_at : (op : Op) (operands : List Operand) (i : Instruction) → (let made : Instruction = record { op = op; operands = operands } in made) ≡ i →
+pub none_left_at : {volatile : Bool} (op : Op) (operands : List Operand) (i : Instruction) → (let made : Instruction = record { op = op; operands = operands; volatile = volatile } in made) ≡ i →
     IsTrue (has_form op operands) → is_leaving i.op ≡ false → left_by (row_of i) ≡ None
 none_left_at op operands i e t is =
     sym (ap (λ (x : Instruction). left_by (row_of x)) e) ∙ none_left op operands t (ap (λ (x : Instruction). is_leaving x.op) e ∙ is)

@@ -4,11 +4,12 @@ use Rattle.std.proofs.Common.{◌∷◌, length, get_or, drop, Option, Some, Non
 use Rattle.std.proofs.Common.{refl, sym, ap, ◌∙◌, subst, arith}
 use Rattle.std.proofs.Common.{◌++◌, ◌^◌, append_assoc, drop-drop}
 use Rattle.std.specs.Option.{IfSome}
-use Rattle.std.specs.List.{flat_map}
+use Rattle.std.specs.List.{All, flat_map}
 use Rattle.std.specs.Int.{w32, to_le_bytes}
 use Rattle.std.proofs.Math.Seq.{drop-cons}
 use Rattle.std.proofs.lemmas.List.Concat.{flat_map-cons}
 use Rattle.std.proofs.lemmas.List.{drop_all}
+use Rattle.std.proofs.lemmas.List.Elements.{All-head, All-drop}
 use Rattle.std.proofs.lemmas.Bool.{eqb-true, eq-eqb, ne_eqb}
 use Rattle.emit_code.specs.declared.code.EncodedInstruction.{EncodedInstruction}
 use Rattle.rv64_instr.specs.Instruction.{Instruction}
@@ -22,7 +23,10 @@ use Rattle.mir_func.specs.declared.block.Block.{Block}
 use Rattle.mir_func.specs.declared.item.Item.{Item}
 use Rattle.mir_func.specs.declared.item.ItemKind.{ItemKind}
 use Rattle.mir_func.specs.declared.item.ItemKind.TheVariants.{Code, Mark, Phi}
+use Rattle.mir_func.specs.declared.position.ProgramPoint.{ProgramPoint}
 use Rattle.mir_func.specs.Function.{FramedFunction}
+use Rattle.mir_func.specs.Sound.{AllItems}
+use Rattle.mir_func.specs.SoundFrame.{IsPhysical, HasPhysical}
 use Rattle.mir_func.specs.Graph.{Fetch, Here, EndOfBlock, Outside, fetch_in, front, end_of}
 use Rattle.emit_code.specs.Laid.{LaidCode, IsCode, StandFrom}
 use Rattle.sem_machine.specs.Image.{Image, word_at}
@@ -250,6 +254,33 @@ call_site f e is = by_fetch (fetch_in (drop e.point.block f.blocks) e.point.item
   by_fetch (Here i) q = by_kind i.kind (ap fetch_instruction q) (ap fetch_call q)
   by_fetch (EndOfBlock k n) q = absurd (no_call (entry_call f e) (ap fetch_call q) is)
   by_fetch Outside q = absurd (no_call (entry_call f e) (ap fetch_call q) is)
+
+-- what holds of all items holds of one that is fetched
+first_holds : (P : Item → Type 0) (bs : List Block) (n : ℕ) (i : Item) → All (λ (b : Block). All P b.items) bs → fetch_in bs n ≡ Here i → P i
+first_holds P [] n i h e = cc
+first_holds P (b ∷ bs) n i h e = by_items (drop n b.items) (All-drop P n b.items (All-head (λ (c : Block). All P c.items) b bs h)) e where
+  ends : (cs : List Block) → end_of b.source_end cs ≡ Here i → ⊥
+  ends [] e = cc
+  ends (c ∷ cs) e = cc
+
+  by_items : (xs : List Item) → All P xs → front xs b.source_end bs ≡ Here i → P i
+  by_items [] all e = absurd (ends bs e)
+  by_items (x ∷ xs) all e = let same : x ≡ i = cc in subst P same (All-head P x xs all)
+
+-- the operands of an instruction at a point are physical, where those of all items are
+pub physical_at : (f : FramedFunction) (p : ProgramPoint) (c : Instruction) → AllItems (λ i. HasPhysical i.kind) f.blocks → instruction_in f p ≡ Some c →
+    All IsPhysical c.operands
+physical_at f p c h e = by_fetch (fetch_in (drop p.block f.blocks) p.item) refl e where
+  by_kind : (k : ItemKind) → HasPhysical k → kind_instruction k ≡ Some c → All IsPhysical c.operands
+  by_kind (Code i n) has e = let same : i ≡ c = cc in subst (λ (x : Instruction). All IsPhysical x.operands) same has
+  by_kind (Mark v m) has e = cc
+  by_kind (Phi q n) has e = cc
+
+  by_fetch : (x : Fetch) → fetch_in (drop p.block f.blocks) p.item ≡ x → fetch_instruction x ≡ Some c → All IsPhysical c.operands
+  by_fetch (Here i) q e = by_kind i.kind (first_holds (λ (j : Item). HasPhysical j.kind) (drop p.block f.blocks) p.item i
+      (All-drop (λ (b : Block). All (λ (j : Item). HasPhysical j.kind) b.items) p.block f.blocks h) q) e
+  by_fetch (EndOfBlock k n) q e = cc
+  by_fetch Outside q e = cc
 
 pub none_behind : (blocks : List Block) (b n : ℕ) (block : Block) → b < length blocks → block ≡ get_or blocks b block → length block.items ≤ n →
     fetch_instruction (fetch_in (drop b blocks) n) ≡ None

@@ -4,6 +4,7 @@ ghost use Rattle.std.specs.Prelude.{◌≡◌, ◌<◌, ◌≤◌, ◌+◌, ◌^
 ghost use Rattle.rv64_instr.specs.DefsAndUses.{caller_saved};
 ghost use Rattle.rv64_instr.specs.LocationEffects.{is_call};
 ghost use Rattle.rv64_instr.specs.Row.{CallSite, Callee, Ending, row_of, implicit_uses, outgoing_words};
+ghost use Rattle.mir_func.specs.SoundFrame.{IsPhysical};
 ghost use Rattle.sem_mir.specs.State.{Reply};
 ghost use Rattle.sem_interpreter.specs.Acts.{reply_of};
 ghost use Rattle.sem_machine.specs.Machine.{Machine, register, set_all_in};
@@ -24,7 +25,8 @@ use std::alloc::{AllocError, Global};
 impl Hart {
     /// The event of a call: what it calls, and the contents of the registers and the words on the stack that it passes.
     pub fn event(&self, alloc: Global, i: &Instr) -> Result<CallEvent, AllocError>
-        requires { is_call (row_of i.now) ≡ true }
+        requires call { is_call (row_of i.now) ≡ true }
+        requires physical { All IsPhysical i.now.operands }
         ensures { IfOk result (λ e. (s : Machine) (site : CallSite) → StandsFor self.now s
             → call_of (row_of i.now) ≡ Some site → e ≡ event_of site s) }
     {
@@ -62,7 +64,9 @@ impl Hart {
     {
         match callee {
             Operand::Symbol(name) => Ok(CallTarget::Function(name.copy()?)),
-            Operand::ImplicitUse(r) => Ok(CallTarget::Address(self.read(r.number()))),
+            Operand::Use(r) | Operand::ImplicitUse(r) => {
+                Ok(CallTarget::Address(self.read(r.number())))
+            }
             _ => unreachable!(),
         }
     }

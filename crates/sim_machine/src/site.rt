@@ -1,11 +1,13 @@
 //! Entries and instructions by address.
 
-ghost use Rattle.std.specs.Prelude.{◌≡◌, ◌<◌, ◌≤◌, ◌+◌, ◌*◌, ◌^◌, ◌++◌, Some, None, Option, true, false, IfSome, IsSome};
+ghost use Rattle.std.specs.Prelude.{◌≡◌, ◌<◌, ◌≤◌, ◌+◌, ◌*◌, ◌^◌, ◌++◌, All, Some, None, Option, true, false, IfSome, IsSome};
 ghost use Rattle.std.specs.Prelude.{MatchOption, IfOk, OnOk, cond, is_some, length, slice_index};
 ghost use Rattle.rv64_instr.specs.Decoded.{Shows, ShowsWay};
 ghost use Rattle.rv64_instr.specs.LocationEffects.{is_call};
 ghost use Rattle.rv64_instr.specs.Row as row;
 ghost use Rattle.rv64_instr.specs.Row.{Row, CallSite, row_of};
+ghost use Rattle.mir_func.specs.Sound.{AllItems};
+ghost use Rattle.mir_func.specs.SoundFrame.{IsPhysical, HasPhysical};
 ghost use Rattle.sem_machine.specs.Image.{Image, word_at};
 ghost use Rattle.sem_machine.specs.MachineStep.{call_of, left_by, callee_size};
 ghost use Rattle.sim_machine.specs.Shown.{ShowsCode, entry_at, entry_call, entry_left, word_place, word_places};
@@ -134,6 +136,13 @@ pub fn instruction_at<'a>(framed: &'a Framed, point: &ProgramPoint) -> Option<&'
     }
 }
 
+/// The code of a function with its frame names physical registers alone, an invariant of the type of such functions.
+fn know_physical(framed: &Framed)
+    ensures { AllItems (λ i. HasPhysical i.kind) framed.now.blocks }
+{
+    let _ = &framed.blocks;
+}
+
 /// Whether an entry's item is a call.
 pub fn calls(code: &Code, entry: &EncodedInstruction) -> bool
     ensures { result ≡ is_some (entry_call code.now.framed entry.now) }
@@ -191,8 +200,10 @@ pub fn call_at<'a>(code: &'a Code, entry: &EncodedInstruction) -> &'a Instr
     requires call { IsSome (entry_call code.now.framed entry.now) }
     ensures calls { is_call (row_of result.now) ≡ true }
     ensures same { entry_call code.now.framed entry.now ≡ call_of (row_of result.now) }
+    ensures physical { All IsPhysical result.now.operands }
     ensures low { entry.now.address < 2 ^ 63 }
 {
+    know_physical(&code.framed);
     match instruction_at(&code.framed, &entry.point) {
         Some(i) => i,
         None => unreachable!(),

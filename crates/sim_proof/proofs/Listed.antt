@@ -4,6 +4,7 @@ use Rattle.rv64_instr.specs.declared.op.Op.{Op}
 use Rattle.rv64_instr.specs.declared.op.Op.TheVariants.{PseudoCall}
 use Rattle.rv64_instr.specs.declared.operand.Operand.{Operand}
 use Rattle.rv64_instr.specs.declared.operand.Operand.TheVariants.{Def, Use, ImplicitDef, ImplicitUse, Imm, Slot, Object, Part, Block, Symbol, Mask, Outgoing}
+use Rattle.rv64_instr.specs.declared.operand.Operand.TheVariants.{GlobalRegisters}
 use Rattle.rv64_instr.specs.Instruction.{Instruction}
 use Rattle.rv64_instr.specs.LocationEffects.{is_call}
 use Rattle.rv64_instr.specs.Row.{Row, Calls}
@@ -56,6 +57,7 @@ call_operands f (Part half y ∷ rest) = no_symbol f (Part half y) rest (λ more
 call_operands f (Block m ∷ rest) = no_symbol f (Block m) rest (λ more. refl)
 call_operands f (Mask ∷ rest) = no_symbol f Mask rest (λ more. refl)
 call_operands f (Outgoing n ∷ rest) = no_symbol f (Outgoing n) rest (λ more. refl)
+call_operands f (GlobalRegisters ∷ rest) = no_symbol f GlobalRegisters rest (λ more. refl)
 
 by_op : (f : FramedFunction) (op : Op) (os : List Operand) → call_of (row_by op (by_pointer f os)) ≡ call_of (row_by op os)
 by_op f op os = elim (quiet op) as (λ _. call_of (row_by op (by_pointer f os)) ≡ call_of (row_by op os)) [

@@ -8,8 +8,8 @@ use Rattle.rv64_instr.specs.declared.start.Start.{Start}
 use Rattle.sem_mir.specs.State.{Reply, written}
 use Rattle.sem_machine.specs.Machine.{Machine, register, register_in}
 use Rattle.emit_code.specs.Laid.{LaidCode}
-use Rattle.sim_machine.specs.Machines.{StartsCode}
-use Rattle.sim_proof.specs.Runs.{WereGiven}
+use Rattle.sim_trace.specs.sim_machine.Machines.{StartsCode}
+use Rattle.sim_trace.specs.sim_proof.Runs.{WereGiven}
 use Rattle.sim_trace.specs.declared.variable.Variable.{Variable}
 use Rattle.sim_trace.specs.Run.{IsTextOfRun}
 use Rattle.sim_start.specs.InitialMachine.{start_register, BeginsRun, reply_to, replies, IsTextOfAskedRun}

@@ -8,7 +8,7 @@ use Rattle.sem_mir.specs.State.{Reply}
 use Rattle.sem_machine.specs.Image.{Image}
 use Rattle.sem_machine.specs.Machine.{Machine, register}
 use Rattle.emit_code.specs.Laid.{LaidCode}
-use Rattle.sim_machine.specs.Shown.{ShowsCode}
+use Rattle.sim_trace.specs.sim_machine.Shown.{ShowsCode}
 use Rattle.sim_trace.specs.declared.variable.Variable.{Variable}
 use Rattle.sim_trace.specs.Run.{IsRunText}
 

@@ -5,7 +5,7 @@ ghost use Rattle.rv64_instr.specs.DefsAndUses.{caller_saved};
 ghost use Rattle.sim_start.specs.InitialMachine.{call_value, call_register, reply_to};
 
 use rv64_instr::start::{CallEvent, CallResult, Values};
-use sim_machine::answers::CallAnswers;
+use sim_trace::sim_machine_crate::answers::CallAnswers;
 
 /// The answer to the n-th call, from 1, sets x10 to the n-th value, or to n if there is none, and each other
 /// caller-saved register to 2000 plus its number. It writes no memory.

@@ -2,6 +2,8 @@
 //! values as the results of its calls, one line for each step.
 #![tactic(auto)]
 
+pub use sim_trace as sim_trace_crate;
+
 pub mod answers;
 pub mod start;
 pub mod text;

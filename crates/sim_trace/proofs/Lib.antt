@@ -4,3 +4,4 @@ pub mod Places
 pub mod Listed
 pub mod Lifting
 pub mod Stops
+pub use Rattle.sim_proof.proofs as sim_proof

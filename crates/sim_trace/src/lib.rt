@@ -5,6 +5,8 @@
 //! for each variable and never reads a section.
 #![tactic(auto)]
 
+pub use sim_machine as sim_machine_crate;
+
 mod line;
 pub mod location;
 pub mod run;

@@ -20,7 +20,7 @@ use Rattle.rv64_instr.specs.declared.operand.Operand.TheVariants.{Def, Use, Impl
 use Rattle.rv64_instr.specs.declared.place.Place.{Place}
 use Rattle.rv64_instr.specs.declared.place.Place.TheVariants.{Register as AtRegister, Slot as AtSlot, Const}
 use Rattle.rv64_instr.specs.Row.{Row, Fixes, Moves, LoadsSlot, StoresSlot, row_of, row_by, immediate_row, object_row, move_row, implicit_uses, outgoing_words}
-use Rattle.rv64_instr.specs.Row.{held_call, held_tail, held_gone}
+use Rattle.rv64_instr.specs.Row.{held_tail, held_gone}
 use Rattle.mir_func.specs.declared.debug_substitution.OperandPair.{OperandPair}
 use Rattle.mir_func.specs.declared.item.Item.{Item}
 use Rattle.mir_func.specs.declared.item.ItemKind.{ItemKind}
@@ -244,10 +244,6 @@ move_reads : (rd rs : ℕ) → rs < 32 → ReadsPhysical (move_row rd rs)
 move_reads rd zero h = tt
 move_reads rd (suc r) h = h
 
-held_call_reads : (xs outgoing : List ℕ) → ReadsPhysical (held_call xs outgoing)
-held_call_reads [] outgoing = tt
-held_call_reads (r ∷ xs) outgoing = tt
-
 held_tail_reads : (xs : List ℕ) → ReadsPhysical (held_tail xs)
 held_tail_reads [] = tt
 held_tail_reads (r ∷ xs) = tt
@@ -272,7 +268,7 @@ reads_by Copy (Def rd ∷ Use rs ∷ rest) h = move_reads rd rs (h 1 (Use rs) (o
 reads_by PseudoBr (ToBlock target ∷ rest) h = tt
 reads_by PseudoCall (Symbol name ∷ rest) h = tt
 reads_by PseudoRet os h = tt
-reads_by PseudoCallIndirect os h = held_call_reads (implicit_uses os) (outgoing_words os)
+reads_by PseudoCallIndirect (Use r ∷ rest) h = tt
 reads_by PseudoTail (Symbol name ∷ rest) h = tt
 reads_by PseudoTailIndirect os h = held_tail_reads (implicit_uses os)
 reads_by NoReturnCall (Symbol name ∷ rest) h = tt

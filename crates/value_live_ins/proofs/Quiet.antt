@@ -15,9 +15,9 @@ use Rattle.rv64_instr.specs.declared.op.Op.TheVariants.{Registers, Immediate, Lu
 use Rattle.rv64_instr.specs.declared.op.Op.TheVariants.{PseudoBr, PseudoCall, PseudoRet, PseudoCallIndirect}
 use Rattle.rv64_instr.specs.declared.op.Op.TheVariants.{PseudoTail, PseudoTailIndirect, NoReturnCall, NoReturnCallIndirect}
 use Rattle.rv64_instr.specs.declared.operand.Operand.{Operand}
-use Rattle.rv64_instr.specs.declared.operand.Operand.TheVariants.{Def, Use, ImplicitDef, ImplicitUse, Imm, Slot, Object, Part, Outgoing}
+use Rattle.rv64_instr.specs.declared.operand.Operand.TheVariants.{Def, Use, ImplicitDef, ImplicitUse, Imm, Slot, Object, Part, Outgoing, GlobalRegisters}
 use Rattle.rv64_instr.specs.declared.operand.Operand.TheVariants.{Block as ToBlock, Symbol, Mask}
-use Rattle.rv64_instr.specs.Row.{Row, Jumps, row_of, row_by, immediate_row, object_row, move_row, implicit_uses, outgoing_words, held_call, held_tail}
+use Rattle.rv64_instr.specs.Row.{Row, Jumps, row_of, row_by, immediate_row, object_row, move_row, implicit_uses, held_tail}
 use Rattle.rv64_instr.specs.Row.{held_gone}
 use Rattle.mir_func.specs.declared.debug_substitution.OperandPair.{OperandPair}
 use Rattle.mir_func.specs.declared.exit.Exit.{Exit}
@@ -46,6 +46,7 @@ none_defined (Slot n ∷ os) h zero = refl
 none_defined (Object n ∷ os) h zero = refl
 none_defined (Part half y ∷ os) h zero = refl
 none_defined (Outgoing n ∷ os) h zero = refl
+none_defined (GlobalRegisters ∷ os) h zero = refl
 none_defined (ToBlock n ∷ os) h zero = refl
 none_defined (Symbol n ∷ os) h zero = refl
 none_defined (Mask ∷ os) h zero = refl
@@ -73,10 +74,6 @@ move_goes : (rd rs t : ℕ) → row_exit (move_row rd rs) ≡ Always t → ⊥
 move_goes rd zero t h = cc
 move_goes rd (suc r) t h = cc
 
-held_call_goes : (xs outgoing : List ℕ) (t : ℕ) → row_exit (held_call xs outgoing) ≡ Always t → ⊥
-held_call_goes [] outgoing t h = cc
-held_call_goes (r ∷ xs) outgoing t h = cc
-
 held_tail_goes : (xs : List ℕ) (t : ℕ) → row_exit (held_tail xs) ≡ Always t → ⊥
 held_tail_goes [] t h = cc
 held_tail_goes (r ∷ xs) t h = cc
@@ -101,7 +98,7 @@ jumps_by Copy (Def rd ∷ Use rs ∷ rest) t h e = absurd (move_goes rd rs t e)
 jumps_by PseudoBr (ToBlock target ∷ rest) t h e = (target, refl, jump_defines target rest h)
 jumps_by PseudoCall (Symbol name ∷ rest) t h e = absurd cc
 jumps_by PseudoRet os t h e = absurd cc
-jumps_by PseudoCallIndirect os t h e = absurd (held_call_goes (implicit_uses os) (outgoing_words os) t e)
+jumps_by PseudoCallIndirect (Use r ∷ rest) t h e = absurd cc
 jumps_by PseudoTail (Symbol name ∷ rest) t h e = absurd cc
 jumps_by PseudoTailIndirect os t h e = absurd (held_tail_goes (implicit_uses os) t e)
 jumps_by NoReturnCall (Symbol name ∷ rest) t h e = absurd cc

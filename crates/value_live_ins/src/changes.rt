@@ -17,7 +17,6 @@ ghost use Rattle.value_live_ins.specs.Walking.{IsTracking, AreTracked, decoded, 
 use base_list::List;
 use mir_func::debug_substitution::OperandPair;
 use mir_func::item::{Item, ItemKind};
-use mir_func::variable::VarId;
 use mir_substitution::substitutions::Substitutions;
 use rv64_instr::reg::physical;
 use std::alloc::{AllocError, Global};
@@ -25,6 +24,7 @@ use value_solver::flow::{Change, Changes, Source};
 use value_solver::tracked::Tracked;
 use value_tracker::index::{TrackedIndex, key};
 use value_tracker::location_tracker::{LocationTracker, slot_place};
+use value_tracker::part_list::PartList;
 use value_tracker::pass::Block as Fixed;
 use value_tracker::start::start;
 
@@ -37,7 +37,7 @@ const MOST_ITEMS: usize = 1 << 32;
 #[derive(Drop)]
 pub struct Tracking<'a> {
     /// The tracked parts of variables.
-    pub variables: &'a [VarId],
+    pub variables: &'a PartList,
     /// All tracked entities.
     pub things: &'a [Tracked],
     /// The positions of constants and pairs in their list.

@@ -30,15 +30,16 @@ use mir_substitution::substitutions::Substitutions;
 use rv64_instr::reg::physical;
 use std::alloc::{AllocError, Global};
 use value_solver::tracked::{Tracked, TrackedItems};
+use value_tracker::part_list::PartList;
 
 /// Parts of variables.
-pub type Variables = List<VarId>;
+type Variables = List<VarId>;
 
 /// The tracked entities.
 #[derive(Drop)]
 pub struct TrackedValues {
     /// The parts of variables that debug values assign.
-    pub variables: Variables,
+    pub variables: PartList,
     /// All tracked entities: these parts first.
     pub things: TrackedItems,
 }
@@ -194,8 +195,27 @@ fn note_items(
     Ok(())
 }
 
-/// The parts of variables that the blocks' debug values assign.
+/// The parts of variables that the blocks' debug values assign, chained.
 fn parts_of(
+    alloc: Global,
+    gathered: &mut TrackedItemSet,
+    blocks: &[Block],
+) -> Result<PartList, AllocError>
+    requires gathered { IsGathered gathered.old }
+    requires empty { gathered.old.things ≡ [] }
+    ensures gathered { OnOk result (IsGathered gathered.new) }
+    ensures parts { IfOk result (λ vs. gathered.new.things ≡ map Part vs) }
+    ensures has { IfOk result (λ vs. AllItems (λ i. HasPart vs i.kind) blocks.now) }
+    ensures only { OnOk result ((ends : OperandPair → Option OperandPair) →
+        AppendsOnly (IsNamed ends blocks.now) [] gathered.new.things) }
+{
+    let variables = gather_parts(alloc, gathered, blocks)?;
+    let parts = PartList::new(alloc, variables.into_vec())?;
+    Ok(parts)
+}
+
+/// The parts of variables that the blocks' debug values assign.
+fn gather_parts(
     alloc: Global,
     gathered: &mut TrackedItemSet,
     blocks: &[Block],

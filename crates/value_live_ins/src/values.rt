@@ -16,27 +16,27 @@ ghost use Rattle.value_tracker.specs.Things.{AreThings};
 use crate::changes::{Tracking, own_classes};
 use crate::flows::flows_of;
 use crate::opening::start_entry;
-use crate::things::{TrackedValues, Variables, things_of};
+use crate::things::{TrackedValues, things_of};
 use crate::ways::indices_of;
 use mir_func::block::Block;
 use mir_func::debug_substitution::OperandPair;
 use mir_func::framed::Framed;
-use mir_func::variable::VarId;
 use mir_substitution::substitutions::Substitutions;
 use std::alloc::{AllocError, Global};
 use value_solver::entry::BlockEntries;
 use value_solver::solve::{Solved, solve as solve_flows};
 use value_solver::tracked::{Tracked, TrackedItems};
 use value_tracker::index::index_of;
+use value_tracker::part_list::PartList;
 
 /// The limit on entities and on blocks, exclusive: memory runs out before it.
 const MOST: usize = (1 << 32) - 1;
 
 /// The value analysis of a function with its frame (LLVM: the live-in values of InstrRefBasedLDV).
-#[derive(Debug, Drop)]
+#[derive(Drop)]
 pub struct MachineValues {
     /// The parts of variables that its debug values assign, in order of first appearance.
-    pub variables: Variables,
+    pub variables: PartList,
     /// All tracked entities: these parts, registers but x0 and x2, and the slots, pairs and constants that its items
     /// copy.
     pub things: TrackedItems,
@@ -52,7 +52,7 @@ fn solve_over(
     alloc: Global,
     blocks: &[Block],
     subs: &Substitutions,
-    variables: &[VarId],
+    variables: &PartList,
     things: &[Tracked],
 ) -> Result<Solved, AllocError>
     requires few { length things.now < 4294967295 }
@@ -100,7 +100,7 @@ fn solve_things(
     if things.len() >= MOST || blocks.len() >= MOST {
         return Err(AllocError);
     }
-    let solved = solve_over(alloc, blocks, subs, variables.as_slice(), things.as_slice())?;
+    let solved = solve_over(alloc, blocks, subs, &variables, things.as_slice())?;
     let Solved { entries, sweeps } = solved;
     Ok(MachineValues {
         variables,

@@ -11,6 +11,7 @@ use mir_func::block::Block;
 use mir_func::variable::VarId;
 use std::alloc::{AllocError, Global};
 use value_tracker::index::TrackedIndex;
+use value_tracker::part_list::PartList;
 
 /// The walk's state before an item of a block, or after its last one. The error is out of memory.
 pub fn stand_before(
@@ -38,7 +39,14 @@ pub fn stand_before(
 }
 
 /// The index of a part in a list, or None if it isn't in it.
-pub fn index_in(parts: &[VarId], part: &VarId) -> Option<usize>
+pub fn index_in(parts: &PartList, part: &VarId) -> Option<usize>
+    ensures some { IfSome result (λ j. slice_get parts.now j ≡ Some part.now) }
+    ensures none { IsNone result → Contains parts.now part.now → ⊥ }
+{
+    position_of(parts.as_slice(), part)
+}
+
+fn position_of(parts: &[VarId], part: &VarId) -> Option<usize>
     ensures some { IfSome result (λ j. slice_get parts.now j ≡ Some part.now) }
     ensures none { IsNone result → Contains parts.now part.now → ⊥ }
 {

@@ -25,6 +25,7 @@ use rv64_instr::place::Place;
 use std::alloc::{AllocError, Global};
 use value_tracker::index::index_of;
 use value_tracker::location_tracker::LocationTracker;
+use value_tracker::part_list::PartList;
 
 /// The first place that holds the value of a part of a variable on every path to an item of a block, or after its last
 /// one: a constant, else the lowest register, else the lowest slot. None if and only if no place holds it. By a walk
@@ -69,7 +70,7 @@ fn places_at(
 }
 
 /// The place of a part among those of all parts, and None for a part without debug values.
-fn place_of(parts: &[VarId], places: &[Option<Place>], part: &VarId) -> Option<Place>
+fn place_of(parts: &PartList, places: &[Option<Place>], part: &VarId) -> Option<Place>
     requires { length parts.now ≡ length places.now }
     ensures { (g : Program) (start : Pos) (p : Pos) → AreWantedPlaces g start p parts.now places.now →
         IsWantedPlace g start part.now p result }
@@ -95,7 +96,7 @@ pub fn holds(values: &Values, point: &QueryPoint, part: &VarId, place: &Place) -
 }
 
 /// The class of a part of a variable, and 0 for a part without debug values.
-fn part_class(held: &LocationTracker, parts: &[VarId], part: &VarId) -> usize
+fn part_class(held: &LocationTracker, parts: &PartList, part: &VarId) -> usize
     ensures held { Contains parts.now part.now → (j : ℕ) × (slice_get parts.now j ≡ Some part.now)
         × (result ≡ slice_index held.now.parts.items j) }
     ensures none { result ≢ 0 → Contains parts.now part.now }

@@ -3,7 +3,7 @@ use Rattle.std.proofs.Common.{◌≡◌, ℕ, zero, suc, ◌+◌, ◌*◌, ◌<�
 use Rattle.std.specs.Prelude.{slice_index, slice_index_or, slice_get, nat_eq, IsSome}
 use Rattle.std.proofs.lemmas.Bool.{false≢true}
 use Rattle.mir_func.specs.Graph.{Program}
-use Rattle.sem_mir.specs.ValueId.{Token, Made, Tokens}
+use Rattle.sem_value_ids.specs.sem_mir.ValueId.{Token, Made, Tokens}
 use Rattle.sem_value_ids.specs.Pullback.{token_of}
 use Rattle.sem_value_ids.proofs.Naming.{IsOld, IsOlder}
 use Rattle.sem_value_ids.proofs.Made.{path_is_old}

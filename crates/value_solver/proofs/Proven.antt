@@ -8,7 +8,7 @@ use Rattle.std.proofs.lemmas.List.Folds.{list_all-append}
 use Rattle.std.proofs.lemmas.List.{get_or_past}
 use Rattle.std.proofs.lemmas.Option.{slice_get_within, get_or_from_slice_get}
 use Rattle.mir_func.specs.Graph.{Program}
-use Rattle.sem_mir.specs.ValueId.{Token, Tokens, begin, entry_tokens}
+use Rattle.sem_value_ids.specs.sem_mir.ValueId.{Token, Tokens, begin, entry_tokens}
 use Rattle.value_solver.specs.declared.tracked.Tracked.{Tracked}
 use Rattle.value_solver.specs.declared.entry.BlockEntry.{BlockEntry}
 use Rattle.value_solver.specs.Entry.{PathTo, IsReached, AreClasses, IsEntry}

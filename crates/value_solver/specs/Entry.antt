@@ -1,7 +1,7 @@
 -- The live-in values of a block: what holds on all paths to the block's start.
 use Rattle.std.specs.Prelude.{◌≡◌, ◌↔◌, ℕ, List, [], length, slice_get, Some, None, Bool, false, IsTrue, IsSome}
 use Rattle.mir_func.specs.Graph.{Program, block_start}
-use Rattle.sem_mir.specs.ValueId.{Tokens, Path}
+use Rattle.sem_value_ids.specs.sem_mir.ValueId.{Tokens, Path}
 use Rattle.sem_value_ids.specs.Pullback as path
 use Rattle.sem_value_ids.specs.Pullback.{InRegister, InSlot, OfPair, OfVariable, OfNumber, token_of}
 use Rattle.value_solver.specs.declared.tracked.Tracked.{Tracked}

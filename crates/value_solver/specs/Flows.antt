@@ -1,7 +1,7 @@
 -- The flows of a program: each block's effect on the tokens of tracked entities, and its successors.
 use Rattle.std.specs.Prelude.{◌≡◌, ◌↔◌, ◌⊎◌, ℕ, zero, suc, ◌+◌, ◌<◌, List, length, slice_get, slice_index_or, true, false, Option, None, Some, IsSome, Contains}
 use Rattle.mir_func.specs.Graph.{Program}
-use Rattle.sem_mir.specs.ValueId.{Token, Made, Tokens, entry_tokens}
+use Rattle.sem_value_ids.specs.sem_mir.ValueId.{Token, Made, Tokens, entry_tokens}
 use Rattle.sem_value_ids.specs.Pullback.{token_of}
 use Rattle.value_solver.specs.declared.tracked.Tracked.{Tracked}
 use Rattle.value_solver.specs.declared.entry.BlockEntry.{BlockEntry}

@@ -4,7 +4,7 @@ use Rattle.std.specs.Prelude.{None, Some}
 use Rattle.std.specs.List.{list_all}
 use Rattle.dataflow.specs.Graph.{ways_at, ArePredecessors}
 use Rattle.mir_func.specs.Graph.{Program}
-use Rattle.sem_mir.specs.ValueId.{Tokens}
+use Rattle.sem_value_ids.specs.sem_mir.ValueId.{Tokens}
 use Rattle.value_solver.specs.declared.tracked.Tracked.{Tracked}
 use Rattle.value_solver.specs.declared.entry.BlockEntry.{BlockEntry}
 use Rattle.value_solver.specs.Entry.{PathTo, IsReached}

@@ -33,7 +33,7 @@ use Rattle.rv64_instr.specs.declared.place.Place.{Place}
 use Rattle.rv64_instr.specs.declared.place.Place.TheVariants as spot
 use Rattle.mir_func.specs.declared.variable.VarId.{VarId}
 use Rattle.sem_mir.specs.PreferredLocation.{IsPlace, IsPreferredTo}
-use Rattle.sem_value_ids.specs.Pullback.{InSlot, OfVariable, OfNumber}
+use Rattle.value_proof.specs.sem_value_ids.Pullback.{InSlot, OfVariable, OfNumber}
 use Rattle.value_solver.specs.declared.tracked.Tracked.{Tracked}
 use Rattle.value_solver.specs.declared.tracked.Tracked.TheVariants.{Register, Slot, Pair, Part, Number}
 use Rattle.value_solver.specs.Entry.{thing}

@@ -35,8 +35,8 @@ use Rattle.mir_func.specs.Variables.{is_same}
 use Rattle.mir_func.specs.Graph.{Program, block_start}
 use Rattle.sem_mir.specs.ValueId.{Token}
 use Rattle.sem_mir.proofs.Assignments.{same_refl, same_is}
-use Rattle.sem_value_ids.specs.Pullback as path
-use Rattle.sem_value_ids.specs.Pullback.{InRegister, InSlot, OfPair, OfVariable, OfNumber, token_of}
+use Rattle.value_proof.specs.sem_value_ids.Pullback as path
+use Rattle.value_proof.specs.sem_value_ids.Pullback.{InRegister, InSlot, OfPair, OfVariable, OfNumber, token_of}
 use Rattle.value_solver.specs.declared.tracked.Tracked.{Tracked}
 use Rattle.value_solver.specs.declared.tracked.Tracked.TheVariants.{Register, Slot, Pair, Part, Number}
 use Rattle.value_solver.specs.declared.entry.BlockEntry.{BlockEntry}

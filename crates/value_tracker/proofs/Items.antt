@@ -43,8 +43,8 @@ use Rattle.mir_func.specs.declared.item.ItemKind.TheVariants.{Code, Phi}
 use Rattle.mir_func.specs.Variables.{is_same, overlaps}
 use Rattle.mir_substitution.specs.Index.{is_key}
 use Rattle.sem_mir.specs.Step.{defined}
-use Rattle.sem_value_ids.specs.Pullback as path
-use Rattle.sem_value_ids.specs.Pullback.{
+use Rattle.value_proof.specs.sem_value_ids.Pullback as path
+use Rattle.value_proof.specs.sem_value_ids.Pullback.{
   InRegister,
   InSlot,
   OfPair,

@@ -37,8 +37,8 @@ use Rattle.rv64_instr.specs.declared.decoded.Decoded.TheVariants as decoded
 use Rattle.rv64_instr.specs.LocationEffects.{is_outgoing}
 use Rattle.rv64_instr.proofs.Passed.{passed_by}
 use Rattle.rv64_instr.specs.DefsAndUses.{caller_saved}
-use Rattle.sem_value_ids.specs.Pullback as path
-use Rattle.sem_value_ids.specs.Pullback.{
+use Rattle.value_proof.specs.sem_value_ids.Pullback as path
+use Rattle.value_proof.specs.sem_value_ids.Pullback.{
   InRegister,
   InSlot,
   OfPair,

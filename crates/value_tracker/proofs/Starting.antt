@@ -8,8 +8,8 @@ use Rattle.std.proofs.lemmas.Bool.Decides.{nat_tests, eqb_tells}
 use Rattle.std.proofs.lemmas.Option.{slice_get-get_or, slice_get_within, get_or_from_slice_get, slice_get-map}
 use Rattle.mir_func.specs.declared.variable.VarId.{VarId}
 use Rattle.mir_substitution.specs.Index.{is_key}
-use Rattle.sem_value_ids.specs.Pullback as path
-use Rattle.sem_value_ids.specs.Pullback.{InRegister, InSlot, OfPair, OfVariable, OfNumber}
+use Rattle.value_proof.specs.sem_value_ids.Pullback as path
+use Rattle.value_proof.specs.sem_value_ids.Pullback.{InRegister, InSlot, OfPair, OfVariable, OfNumber}
 use Rattle.value_solver.specs.declared.tracked.Tracked.{Tracked}
 use Rattle.value_solver.specs.declared.tracked.Tracked.TheVariants.{Register, Slot, Pair, Part, Number}
 use Rattle.value_solver.specs.Entry.{thing}

@@ -17,6 +17,8 @@ use Rattle.std.specs.Prelude.{
   Some,
   None,
   Bool,
+  true,
+  false,
   ◌&&◌,
   cond,
   nat_eq,
@@ -40,10 +42,11 @@ use Rattle.mir_func.specs.declared.variable.MarkValue.TheVariants.{Nothing, Cons
 use Rattle.mir_func.specs.declared.debug_substitution.OperandPair.{OperandPair}
 use Rattle.mir_func.specs.declared.variable.VarId.{VarId}
 use Rattle.mir_func.specs.declared.item.ItemKind.{ItemKind}
+use Rattle.mir_func.specs.declared.item.ItemKind.TheVariants.{Code, Mark, Phi}
 use Rattle.mir_func.specs.Variables.{is_same, overlaps}
 use Rattle.mir_substitution.specs.Index.{is_key}
-use Rattle.sem_value_ids.specs.Pullback as path
-use Rattle.sem_value_ids.specs.Pullback.{InRegister, InSlot, OfPair, OfVariable, OfNumber, back}
+use Rattle.value_proof.specs.sem_value_ids.Pullback as path
+use Rattle.value_proof.specs.sem_value_ids.Pullback.{InRegister, InSlot, OfPair, OfVariable, OfNumber, back}
 use Rattle.value_proof.specs.Classes.{Classes, IsKnown, KnowsItem, class_back, pairs_of}
 use Rattle.value_tracker.specs.declared.index.TrackedIndex.{TrackedIndex}
 use Rattle.value_tracker.specs.declared.location_tracker.LocationTracker.{LocationTracker}
@@ -142,6 +145,12 @@ places_past number next row places i = written_past number next (write_of row) p
 -- the class of a part of a variable past a debug value for the part `marked`: c for that part, and 0 for an overlapping one
 abbrev pub part_past : (marked : VarId) → (c : ℕ) → VarId → ℕ → ℕ
 part_past v c w d = cond (is_same w v) c (cond (overlaps w v) 0 d)
+
+-- the item is a debug value
+abbrev pub is_mark : ItemKind → Bool
+is_mark (Code i n) = false
+is_mark (Mark v value) = true
+is_mark (Phi p n) = false
 
 -- ---- what debug values and DBG_PHIs read, and what operands define
 

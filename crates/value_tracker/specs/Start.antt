@@ -27,7 +27,7 @@ use Rattle.std.specs.Prelude.{
 use Rattle.rv64_instr.specs.declared.place.Place.TheVariants.{Const}
 use Rattle.rv64_instr.specs.Arithmetic.{word}
 use Rattle.sem_mir.specs.PreferredLocation.{IsPlace}
-use Rattle.sem_value_ids.specs.Pullback.{InRegister, InSlot, OfNumber}
+use Rattle.value_proof.specs.sem_value_ids.Pullback.{InRegister, InSlot, OfNumber}
 use Rattle.value_solver.specs.declared.tracked.Tracked.{Tracked}
 use Rattle.value_solver.specs.declared.tracked.Tracked.TheVariants.{Register, Slot, Pair, Part, Number}
 use Rattle.value_solver.specs.Entry.{thing}

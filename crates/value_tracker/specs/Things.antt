@@ -4,7 +4,7 @@ use Rattle.std.specs.HashMap.{get}
 use Rattle.base_ids.specs.Limits.{MAX_OFFSET}
 use Rattle.mir_func.specs.declared.variable.VarId.{VarId}
 use Rattle.mir_substitution.specs.Index.{is_key}
-use Rattle.sem_value_ids.specs.Pullback.{InRegister, OfNumber}
+use Rattle.value_proof.specs.sem_value_ids.Pullback.{InRegister, OfNumber}
 use Rattle.value_solver.specs.declared.tracked.Tracked.{Tracked}
 use Rattle.value_solver.specs.declared.tracked.Tracked.TheVariants.{Register, Slot, Pair, Part, Number}
 use Rattle.value_solver.specs.Entry.{thing}

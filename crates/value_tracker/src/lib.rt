@@ -5,11 +5,15 @@
 //! value on every path, so a variable's location is looked up by its class.
 #![tactic(auto)]
 
+pub use mir_substitution as mir_substitution_crate;
+pub use value_solver as value_solver_crate;
+
 pub mod class_location;
 pub mod index;
 pub mod laws;
 pub mod location_tracker;
 pub mod lowest_location;
+pub mod part_list;
 pub mod pass;
 pub mod row;
 pub mod start;

@@ -1,6 +1,7 @@
 //! The tracker's step over an item.
 
 ghost use Rattle.std.specs.Prelude.{
+  false,
   ◌≡◌,
   ◌<◌,
   ◌≤◌,
@@ -29,11 +30,13 @@ ghost use Rattle.value_tracker.specs.LocationTracker.{
   place_class,
   operand_class,
   part_past,
+  is_mark,
   Passes,
 };
 
 use crate::index::{TrackedIndex, key, number_class, pair_class};
 use crate::location_tracker::{LocationTracker, PLACES, SLOTS_FROM, slot_place};
+use crate::part_list::PartList;
 use base_ids::function_ids::DebugNumber;
 use mir_func::debug_substitution::OperandPair;
 use mir_func::item::ItemKind;
@@ -57,7 +60,7 @@ pub struct Block<'a> {
     /// The class of each tracked entity at the start of the block, or 0.
     pub settled: &'a [usize],
     /// The tracked parts of variables.
-    pub variables: &'a [VarId],
+    pub variables: &'a PartList,
     /// The debug value substitutions, which pairs resolve by.
     pub subs: &'a Substitutions,
 }
@@ -214,6 +217,7 @@ impl LocationTracker {
             (resolve block.now.subs.now) self.old self.new kind.now) }
         ensures places { OnOk result (length self.new.places.items ≡ PLACES) }
         ensures parts { OnOk result (length self.new.parts.items ≡ length block.now.variables.now) }
+        ensures stay { OnOk result (is_mark kind.now ≡ false → self.new.parts ≡ self.old.parts) }
     {
         match kind {
             ItemKind::Code(instr, number) => self.pass_code(block, instr, *number),
@@ -226,16 +230,42 @@ impl LocationTracker {
     }
 }
 
-/// Sets the class of a part of a variable, and clears those of the parts that overlap.
-fn mark(parts: &mut Vec<usize>, variables: &[VarId], variable: &VarId, class: usize)
+/// Whether the item is a debug value.
+pub fn is_mark(kind: &ItemKind) -> bool
+    ensures { result ≡ is_mark kind.now }
+{
+    match kind {
+        ItemKind::Code(_, _) => false,
+        ItemKind::Mark(_, _) => true,
+        ItemKind::Phi(_, _) => false,
+    }
+}
+
+/// Sets the class of a part of a variable, and clears those of the parts that overlap. It looks at the parts of that
+/// variable alone.
+fn mark(parts: &mut Vec<usize>, variables: &PartList, variable: &VarId, class: usize)
     requires { length parts.old.items ≡ length variables.now }
     ensures past { (j : ℕ) (w : VarId) → slice_get variables.now j ≡ Some w
         → slice_index parts.new.items j ≡ part_past variable.now class w (slice_index parts.old.items j) }
     ensures count { length parts.new.items ≡ length variables.now }
 {
-    for j in 0..parts.len() {
-        parts[j] = part_past(variable, class, &variables[j], parts[j]);
+    let all = variables.as_slice();
+    let mut end = variables.end(variable);
+    while end > 0 {
+        let j = end - 1;
+        mark_part(parts, j, &all[j], variable, class);
+        end = variables.end_before(j);
     }
+}
+
+/// Sets the class of the part at an index past a debug value of a part.
+fn mark_part(parts: &mut Vec<usize>, j: usize, part: &VarId, marked: &VarId, class: usize)
+    requires { j < length parts.old.items }
+    ensures here { slice_index parts.new.items j ≡ part_past marked.now class part.now (slice_index parts.old.items j) }
+    ensures others { (i : ℕ) → (i ≡ j → ⊥) → slice_index parts.new.items i ≡ slice_index parts.old.items i }
+    ensures count { length parts.new.items ≡ length parts.old.items }
+{
+    parts[j] = part_past(marked, class, part, parts[j]);
 }
 
 /// The class of a part past a debug value of a part.

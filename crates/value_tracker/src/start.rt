@@ -31,7 +31,7 @@ ghost use Rattle.value_tracker.specs.Start.{stands_at, PlacedBelow};
 
 use crate::index::{TrackedIndex, number_class};
 use crate::location_tracker::{LocationTracker, PLACES, SLOTS_FROM, slot_place};
-use mir_func::variable::VarId;
+use crate::part_list::PartList;
 use std::alloc::{AllocError, Global};
 use std::collections::HashMap;
 use value_solver::entry::BlockEntry;
@@ -70,7 +70,7 @@ fn settled_at(classes: &[u32], given: &[bool], i: usize) -> usize
 pub fn start(
     alloc: Global,
     things: &[Tracked],
-    variables: &[VarId],
+    variables: &PartList,
     index: &TrackedIndex,
     settled: &[usize],
 ) -> Result<LocationTracker, AllocError>

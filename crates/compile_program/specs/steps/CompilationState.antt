@@ -1,16 +1,15 @@
 -- The state of compilation after some functions, and after one more.
 use Rattle.std.specs.Prelude.{◌≡◌, ◌*◌, ◌<◌, ◌≤◌, ℕ, List, length}
 use Rattle.emit_code.specs.Counts.{MAX_WORDS}
-use Rattle.pass_trait.specs.declared.loss.Loss.{Loss}
-use Rattle.pass_trait.specs.Steps.{PassStep}
+use Rattle.compile_function.specs.pass_trait.declared.loss.Loss.{Loss}
 use Rattle.frame_rule.specs.Rule.{reach_of}
 use Rattle.compile_function.specs.declared.emit.EmittedFunctions.{EmittedFunctions}
 use Rattle.compile_function.specs.Emitted.{names_of, text_of, IsPushed}
-use Rattle.compile_function.specs.Passed.{source_of, IsMadeBy, IsMadeLosing, IsCompilable}
+use Rattle.compile_function.specs.Passed.{ExposedSteps, source_of, IsMadeBy, IsMadeLosing, IsCompilable}
 use Rattle.read_metadata.specs.Maps.{Maps}
 use Rattle.mir_func.specs.Limits.{MAX_FRAME}
-use Rattle.read_program.specs.declared.closing.Parsed.{Parsed}
-use Rattle.compile_theorem.specs.Source.{PassedFunction, IsPassedFunction}
+use Rattle.compile_function.specs.read_program.declared.closing.Parsed.{Parsed}
+use Rattle.compile_function.specs.compile_theorem.Source.{PassedFunction, IsPassedFunction}
 use Rattle.pass_list.specs.declared.kind.PassKind.{PassKind}
 use Rattle.compile_program.specs.Program.{ArePassed, AreCompiledAs}
 
@@ -24,7 +23,7 @@ pub record IsSourcePushed (meta : Maps) (reserve : List ℕ) (passes : List Pass
   pub pushed : IsPushed meta passed losses before after
 
 -- The function, after the steps of passes, refines its source, and has a frame above the limit.
-pub record IsTooLarge (steps : List PassStep) (q : Parsed) : Type 0 where
+pub record IsTooLarge (steps : ExposedSteps) (q : Parsed) : Type 0 where
   pub passed : PassedFunction
   pub source : passed.source ≡ source_of q
   pub keeps : IsPassedFunction passed

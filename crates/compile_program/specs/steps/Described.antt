@@ -4,10 +4,10 @@ use Rattle.read_metadata.specs.Maps.{Maps}
 use Rattle.dwarf_base.specs.Limits.{SECTION_LIMIT}
 use Rattle.dwarf_info.specs.Entries.{spelling as entries_spelling}
 use Rattle.dwarf_line.specs.Spelling.{spelling as rows_spelling}
-use Rattle.dwarf_line_table.specs.declared.source_and_code.SourceAndCode.{SourceAndCode}
-use Rattle.dwarf_line_table.specs.Program.{table_of}
-use Rattle.dwarf_sections.specs.Inlined.{IsLargeInlined}
-use Rattle.dwarf_unit.specs.Unit.{unit_of}
+use Rattle.compile_function.specs.dwarf_line_table.declared.source_and_code.SourceAndCode.{SourceAndCode}
+use Rattle.compile_function.specs.dwarf_line_table.Program.{table_of}
+use Rattle.compile_function.specs.dwarf_sections.Inlined.{IsLargeInlined}
+use Rattle.compile_function.specs.dwarf_unit.Unit.{unit_of}
 use Rattle.compile_program.specs.Program.{Describe}
 use Rattle.compile_program.specs.declared.compile.Description.{Description}
 

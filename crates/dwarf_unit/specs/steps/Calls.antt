@@ -8,7 +8,7 @@ use Rattle.read_metadata.specs.Maps.{Maps}
 use Rattle.read_metadata.specs.Metadata.{location_at}
 use Rattle.mir_func.specs.declared.variable.VarId.{VarId}
 use Rattle.inline_subroutines.specs.declared.subroutine.InlinedSubroutine.{InlinedSubroutine}
-use Rattle.inline_instances.specs.Instances.{scope_of_call}
+use Rattle.inline_subroutines.specs.inline_instances.Instances.{scope_of_call}
 use Rattle.dwarf_unit.specs.Inlined.{line_or_zero, column_or_zero}
 
 -- the entry of a call without variables

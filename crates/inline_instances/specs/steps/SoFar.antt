@@ -3,7 +3,7 @@ use Rattle.std.specs.Prelude.{◌≡◌, ℕ, List, [], length, Option, Some, sl
 use Rattle.std.specs.List.{AllZip, list_any}
 use Rattle.read_metadata.specs.Maps.{Maps}
 use Rattle.mir_func.specs.declared.block.Block.{Block}
-use Rattle.emit_code.specs.declared.code.EncodedInstruction.{EncodedInstruction}
+use Rattle.dwarf_line_table.specs.emit_code.declared.code.EncodedInstruction.{EncodedInstruction}
 use Rattle.inline_instances.specs.declared.instance.Instance.{Instance}
 use Rattle.inline_instances.specs.declared.table.InstanceTable.{InstanceTable}
 use Rattle.inline_instances.specs.declared.ranges.OpenRanges.{OpenRanges}

@@ -4,7 +4,8 @@ use Rattle.rv64_instr.specs.declared.place.Place.{Place}
 use Rattle.mir_func.specs.Parts.{Bytes}
 use Rattle.dwarf_loclists.specs.declared.range.Part.{Part}
 use Rattle.dwarf_loclists.specs.declared.range.Location.{Location}
-use Rattle.dwarf_loclists.specs.declared.range.Location.TheVariants.{Parts}
+use Rattle.dwarf_loclists.specs.declared.range.Location.TheVariants.{Whole, Parts}
+use Rattle.location_of_variable.specs.declared.group.Group.{Group}
 use Rattle.location_of_variable.specs.declared.group.Piece.{Piece}
 
 -- the place of the part at an index
@@ -34,3 +35,11 @@ whole_place place (Some j) = place j
 abbrev pub in_pieces : List Part → Option Location
 in_pieces [] = None
 in_pieces (x ∷ xs) = Some (Parts (x ∷ xs))
+
+abbrev pub told_or : Option Place → List Part → Option Location
+told_or (Some place) pieces = Some (Whole place)
+told_or None pieces = in_pieces pieces
+
+-- the location by these places: the whole's, or else pieces for the parts that have a place
+abbrev pub location_told : Group → List (Option Place) → Option Location
+location_told group places = told_or (whole_place (place_at places) group.whole) (pieces_from (place_at places) 0 group.pieces.items)

@@ -1,13 +1,13 @@
 -- A self-test of the first function of a compiled program.
 use Rattle.std.specs.Prelude.{◌≡◌, ℕ, List, Some, slice_get}
-use Rattle.selftest_count.specs.Runs.{GoApart}
-use Rattle.selftest_count.specs.Text.{MAX_STEPS, IsSelfTest}
+use Rattle.selftest_proof.specs.selftest_count.Runs.{GoApart}
+use Rattle.selftest_proof.specs.selftest_count.Text.{MAX_STEPS, IsSelfTest}
 use Rattle.mir_func.specs.Resolve.{resolve}
-use Rattle.read_program.specs.declared.closing.Parsed.{Parsed}
-use Rattle.read_program.specs.declared.program.Program.{Program}
+use Rattle.gen_program.specs.read_program.declared.closing.Parsed.{Parsed}
+use Rattle.gen_program.specs.read_program.declared.program.Program.{Program}
 use Rattle.run_command.specs.Program.{CompiledFunction}
 use Rattle.run_command.specs.Runs.{Compilation}
-use Rattle.dwarf_unit.specs.Variables.{variables_of_function}
+use Rattle.run_command.specs.dwarf_unit.Variables.{variables_of_function}
 
 -- the first function of a program, and what is made of it
 pub record IsFirst (p : Program) (c : Compilation) (source : Parsed) (function : CompiledFunction) : Type 0 where

@@ -1,7 +1,7 @@
 -- What was made of the functions before has one function more behind it: its parts are those that the calls gave.
 use Rattle.std.proofs.Common.{◌<◌, ℕ, refl, subst, length, arith, rules}
 use Rattle.emit_code.specs.Counts.{MAX_WORDS, MAX_BASE}
-use Rattle.compile_theorem.specs.Source.{PassedFunction}
+use Rattle.compile_passes.specs.compile_theorem.Source.{PassedFunction}
 use Rattle.compile_function.proofs.Pushed.{few_variables, few_lists, pushed}
 use Rattle.compile_function.specs.Emitted.{IsOneCompiled}
 use Rattle.compile_passes.specs.Passed.{passed_of}

@@ -1,7 +1,7 @@
 use Rattle.std.specs.Prelude.{Err}
 use Rattle.std.proofs.Common.{◌≡◌, ◌∙◌, List, ap, subst, sym}
 use Rattle.std.proofs.lemmas.Result.{err_from_is_err_and}
-use Rattle.read_program.specs.declared.closing.Parsed.{Parsed}
+use Rattle.compile_function.specs.read_program.declared.closing.Parsed.{Parsed}
 use Rattle.compile_function.specs.declared.error.CompileError.{CompileError}
 use Rattle.compile_function.specs.declared.error.CompileError.TheVariants.{FrameTooLarge}
 use Rattle.compile_program.specs.Program.{HasLargeFrame, steps_of}

@@ -1,9 +1,9 @@
 use Rattle.std.proofs.Common.{◌≡◌, ◌<◌, ◌∙◌, ℕ, [], true, ap, subst, map, length, arith, rules, refl, inl, inr}
 use Rattle.dwarf_base.specs.Limits.{SECTION_LIMIT}
-use Rattle.dwarf_sections.specs.Frame.{IsLargeFrameSection}
+use Rattle.compile_function.specs.dwarf_sections.Frame.{IsLargeFrameSection}
 use Rattle.listing_text.specs.declared.output.Output.{Output}
-use Rattle.read_program.specs.declared.closing.Parsed.{Parsed}
-use Rattle.dwarf_line_table.specs.declared.source_and_code.SourceAndCode.{SourceAndCode}
+use Rattle.compile_function.specs.read_program.declared.closing.Parsed.{Parsed}
+use Rattle.compile_function.specs.dwarf_line_table.declared.source_and_code.SourceAndCode.{SourceAndCode}
 use Rattle.compile_function.specs.declared.compiled_function.CompiledFunction.{CompiledFunction}
 use Rattle.compile_function.specs.Emitted.{lists_of}
 use Rattle.compile_program.specs.Program.{IsLarge, Describe}

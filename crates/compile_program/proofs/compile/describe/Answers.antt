@@ -1,7 +1,7 @@
 -- Inlined functions are among the sections exactly if they are asked for.
 use Rattle.std.proofs.Common.{◌≡◌, Bool, IfOk, is_some, sym, subst}
 use Rattle.std.specs.Prelude.{IsErrOf}
-use Rattle.dwarf_sections.specs.declared.sections.SectionError.TheVariants.{TooLarge}
+use Rattle.compile_function.specs.dwarf_sections.declared.sections.SectionError.TheVariants.{TooLarge}
 use Rattle.compile_program.specs.declared.compile.Description.{Description}
 use Rattle.compile_program.specs.steps.Described.{IsLargeDescription}
 use Rattle.compile_program.proofs.compile.describe.Goals as goal

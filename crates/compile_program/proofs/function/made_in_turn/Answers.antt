@@ -1,8 +1,8 @@
 use Rattle.std.proofs.Common.{◌≡◌, List, [], sym, subst}
 use Rattle.std.proofs.lemmas.List.{drop_all}
 use Rattle.compile_function.specs.declared.emit.EmittedFunctions.{EmittedFunctions}
-use Rattle.read_program.specs.declared.closing.Parsed.{Parsed}
-use Rattle.dwarf_line_table.proofs.Split.{split_at}
+use Rattle.compile_function.specs.read_program.declared.closing.Parsed.{Parsed}
+use Rattle.compile_function.proofs.dwarf_line_table.Split.{split_at}
 use Rattle.compile_program.proofs.Behind.{SoFar, begins, more, all_emitted}
 use Rattle.compile_program.proofs.function.made_in_turn.Goals as goal
 

@@ -1,9 +1,9 @@
 use Rattle.std.proofs.Common.{◌+◌, ◌*◌, List, length, sym, subst}
 use Rattle.std.proofs.lemmas.List.{take_all}
-use Rattle.emit_code.specs.Laid.{LaidCode, StandFrom}
-use Rattle.dwarf_line_table.specs.declared.source_and_code.SourceAndCode.{SourceAndCode}
-use Rattle.inline_subroutines.specs.declared.subroutine.InlinedSubroutine.{InlinedSubroutine}
-use Rattle.inline_subroutines.proofs.Scopes.{none_known}
+use Rattle.frame_table.specs.emit_code.Laid.{LaidCode, StandFrom}
+use Rattle.dwarf_unit.specs.dwarf_line_table.declared.source_and_code.SourceAndCode.{SourceAndCode}
+use Rattle.dwarf_unit.specs.inline_subroutines.declared.subroutine.InlinedSubroutine.{InlinedSubroutine}
+use Rattle.dwarf_unit.proofs.inline_subroutines.Scopes.{none_known}
 use Rattle.dwarf_sections.specs.Inlined.{HaveInstances}
 use Rattle.dwarf_sections.proofs.Instances.{InstancesSoFar, instances_begin, instances_more}
 use Rattle.dwarf_sections.proofs.inlined.all_instances.Goals as goal

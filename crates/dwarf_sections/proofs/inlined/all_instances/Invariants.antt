@@ -1,5 +1,5 @@
 use Rattle.std.proofs.Common.{[]}
-use Rattle.inline_subroutines.specs.steps.Known.{AreSubprograms}
+use Rattle.dwarf_unit.specs.inline_subroutines.steps.Known.{AreSubprograms}
 use Rattle.dwarf_sections.proofs.Instances.{InstancesSoFar}
 use Rattle.dwarf_sections.proofs.inlined.all_instances.Given as goal
 

@@ -1,7 +1,7 @@
 use Rattle.std.proofs.Common.{◌+◌, ◌++◌, List, drop, map, append_assoc, ◌∙◌, sym, ap}
-use Rattle.dwarf_line_table.proofs.Split.{split_at}
+use Rattle.dwarf_unit.proofs.dwarf_line_table.Split.{split_at}
 use Rattle.dwarf_rnglists.specs.declared.range.AddressRange.{AddressRange}
-use Rattle.inline_subroutines.specs.declared.subroutine.InlinedSubroutine.{InlinedSubroutine}
+use Rattle.dwarf_unit.specs.inline_subroutines.declared.subroutine.InlinedSubroutine.{InlinedSubroutine}
 use Rattle.dwarf_sections.specs.Inlined.{range_lists}
 use Rattle.dwarf_sections.proofs.inlined.range_lists.Goals as goal
 

@@ -1,6 +1,6 @@
 use Rattle.std.proofs.Common.{List, sym, subst}
 use Rattle.dwarf_frame.specs.declared.table.FrameDescription.{FrameDescription}
-use Rattle.dwarf_line_table.specs.declared.source_and_code.SourceAndCode.{SourceAndCode}
+use Rattle.dwarf_unit.specs.dwarf_line_table.declared.source_and_code.SourceAndCode.{SourceAndCode}
 use Rattle.dwarf_sections.specs.Frame.{IsOfFunction}
 use Rattle.dwarf_sections.proofs.Described.{SoFar, begin, more}
 use Rattle.dwarf_sections.proofs.sections.descriptions.Goals as goal

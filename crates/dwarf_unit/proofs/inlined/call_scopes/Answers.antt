@@ -1,6 +1,6 @@
 use Rattle.std.proofs.Common.{ℕ, ◌+◌, ◌++◌, List, Option, drop, map, append_assoc, ◌∙◌, sym, ap}
 use Rattle.dwarf_line_table.proofs.Split.{split_at}
-use Rattle.inline_instances.specs.Instances.{scope_of_call}
+use Rattle.inline_subroutines.specs.inline_instances.Instances.{scope_of_call}
 use Rattle.inline_subroutines.specs.declared.subroutine.InlinedSubroutine.{InlinedSubroutine}
 use Rattle.dwarf_unit.specs.Inlined.{call_scopes}
 use Rattle.dwarf_unit.proofs.inlined.call_scopes.Goals as goal

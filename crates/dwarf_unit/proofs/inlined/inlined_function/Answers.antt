@@ -4,7 +4,7 @@ use Rattle.dwarf_info.specs.declared.inlined.InlinedCall.{InlinedCall}
 use Rattle.dwarf_info.specs.declared.unit.VariableEntry.{VariableEntry}
 use Rattle.mir_func.specs.declared.variable.VarId.{VarId}
 use Rattle.dwarf_line_table.proofs.Split.{split_at}
-use Rattle.emit_code.specs.Laid.{LaidCode}
+use Rattle.dwarf_line_table.specs.emit_code.Laid.{LaidCode}
 use Rattle.dwarf_unit.specs.Inlined.{kept_variables, is_own, inlined_call}
 use Rattle.dwarf_unit.specs.steps.Calls.{with_more}
 use Rattle.dwarf_unit.proofs.Places.{placed_below}

@@ -1,5 +1,5 @@
 use Rattle.std.proofs.Common.{◌≡◌, ◌++◌, map, take}
-use Rattle.inline_instances.specs.Instances.{scope_of_call}
+use Rattle.inline_subroutines.specs.inline_instances.Instances.{scope_of_call}
 use Rattle.dwarf_unit.proofs.inlined.push_scopes.Given as goal
 
 abbrev pub invariant-loop-instance : goal.invariant-loop-instance

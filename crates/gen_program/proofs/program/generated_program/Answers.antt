@@ -1,6 +1,6 @@
 use Rattle.std.proofs.Common.{◌≡◌, rules}
 use Rattle.std.proofs.lemmas.Grind.{common_steps}
-use Rattle.read_program.specs.declared.program.Program.{Program}
+use Rattle.read_proof.specs.read_program.declared.program.Program.{Program}
 use Rattle.gen_program.specs.Program.{generated_program}
 use Rattle.gen_program.proofs.ReadLemmas.{is_read}
 use Rattle.gen_program.proofs.program.generated_program.Goals as goal

@@ -1,8 +1,8 @@
 use Rattle.std.proofs.Common.{◌≡◌, ℕ, ◌+◌, ◌*◌, ◌<◌, ◌≤◌, List, length, get_or, None, arith, sym, ap, ◌∙◌, subst, IfSome}
 use Rattle.mir_func.specs.Function.{Function}
 use Rattle.mir_func.specs.declared.block.Block.{Block}
-use Rattle.emit_code.specs.declared.code.EncodedInstruction.{EncodedInstruction}
-use Rattle.emit_code.specs.Laid.{LaidCode, StandFrom}
+use Rattle.dwarf_line_table.specs.emit_code.declared.code.EncodedInstruction.{EncodedInstruction}
+use Rattle.dwarf_line_table.specs.emit_code.Laid.{LaidCode, StandFrom}
 use Rattle.dwarf_line_table.specs.Program.{function_end}
 use Rattle.dwarf_line_table.specs.steps.DebugLocations.{AreDebugLocations}
 use Rattle.dwarf_rnglists.specs.declared.range.AddressRange.{AddressRange}

@@ -1,9 +1,10 @@
 use Rattle.std.proofs.Common.{◌≡◌, sym, ◌∙◌, ap, subst}
-use Rattle.std.specs.Prelude.{All, Some, None}
+use Rattle.std.specs.Prelude.{All, Option, Some, None}
+use Rattle.rv64_instr.specs.declared.place.Place.{Place}
 use Rattle.mir_func.specs.Parts.{IsPart}
 use Rattle.location_of_variable.specs.declared.group.Piece.{Piece}
 use Rattle.location_of_variable.specs.VariableLocation.{IsWantedLocation, MayBeListed}
-use Rattle.location_of_variable.specs.steps.Telling.{place_at, pieces_from, whole_place, in_pieces}
+use Rattle.location_of_variable.specs.steps.Telling.{place_at, pieces_from, whole_place, in_pieces, told_or}
 use Rattle.location_of_variable.proofs.Locating.{whole_wanted, whole_listed, pieces_wanted, pieces_listed, same_whole, same_pieces}
 use Rattle.location_of_variable.proofs.location.location.Goals as goal
 
@@ -20,6 +21,8 @@ returns-in_ok-pieces-in-None c = λ others same.
       wanted = λ g start p parts v are of. subst (IsWantedLocation g start v p) (sym is) (pieces_wanted g start p parts others are v group of
           bounds none_there);
       listed = λ g start p parts v are of. subst MayBeListed (sym is) (pieces_listed g start p parts others are v group of bounds none_there);
+      told = is ∙ sym (ap (λ (w : Option Place). told_or w (pieces_from (place_at others) 0 group.pieces.items)) none_there);
+      bounds = λ _. bounds;
     }
 
 pub returns-in-Some : goal.returns-in-Some
@@ -30,4 +33,6 @@ returns-in-Some c = λ others same.
     record {
       wanted = λ g start p parts v are of. whole_wanted g start p parts others are v group of c.in-Some.place some_there;
       listed = λ g start p parts v are of. whole_listed g start p parts others are v group of c.in-Some.place some_there;
+      told = sym (ap (λ (w : Option Place). told_or w (pieces_from (place_at others) 0 group.pieces.items)) some_there);
+      bounds = λ none. absurd (let no : Some c.in-Some.place ≡ None = sym some_there ∙ none in cc);
     }

@@ -1,6 +1,7 @@
 use Rattle.std.proofs.Common.{ℕ, ◌+◌, ◌*◌, List, length, sym, ◌∙◌, subst}
 use Rattle.std.specs.Prelude.{All}
 use Rattle.mir_func.specs.declared.block.Block.{Block}
+use Rattle.mir_func.specs.declared.variable.VarId.{VarId}
 use Rattle.mir_func.specs.Graph.{block_start}
 use Rattle.emit_code.specs.declared.code.EncodedInstruction.{EncodedInstruction}
 use Rattle.emit_code.specs.Laid.{StandFrom}
@@ -28,7 +29,8 @@ returns-clause-exact c = λ are.
     let blocks = c.blocks_of.result.now in
     let entries = c.entries_of.result.now in
     let stand = subst (λ (es : List EncodedInstruction). StandFrom base es end) (sym c.entries_of.ensures.entries) c.entries_of.ensures.stand in
-    let groups = subst (λ (gs : List Group). AreGroupsOf v.variables.now variables gs) (sym c.as_slice.ensures.value) c.in_ok-groups.ensures in
+    let groups = subst (λ (gs : List Group). AreGroupsOf v.variables.now variables gs) (sym c.as_slice-2.ensures.value)
+    (subst (λ (vs : List VarId). AreGroupsOf vs variables c.in_ok-groups.groups.items) c.as_slice.ensures c.in_ok-groups.ensures) in
     let before = have_said_none blocks v entries variables base end stand c.in_ok-tracks.tracks.items c.in_ok-tracks.ensures.new in
     let said = c.in_ok-tracks-2.ensures.said variables base end stand groups before in
     let lists = c.in_ok-close_all.field-0 in
@@ -49,7 +51,8 @@ returns-clause-ascend c =
     let blocks = c.blocks_of.result.now in
     let entries = c.entries_of.result.now in
     let stand = subst (λ (es : List EncodedInstruction). StandFrom base es end) (sym c.entries_of.ensures.entries) c.entries_of.ensures.stand in
-    let groups = subst (λ (gs : List Group). AreGroupsOf v.variables.now variables gs) (sym c.as_slice.ensures.value) c.in_ok-groups.ensures in
+    let groups = subst (λ (gs : List Group). AreGroupsOf v.variables.now variables gs) (sym c.as_slice-2.ensures.value)
+    (subst (λ (vs : List VarId). AreGroupsOf vs variables c.in_ok-groups.groups.items) c.as_slice.ensures c.in_ok-groups.ensures) in
     let before = have_said_none blocks v entries variables base end stand c.in_ok-tracks.tracks.items c.in_ok-tracks.ensures.new in
     let said = c.in_ok-tracks-2.ensures.said variables base end stand groups before in
     let lists = c.in_ok-close_all.field-0 in

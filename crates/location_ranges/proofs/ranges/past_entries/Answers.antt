@@ -1,5 +1,5 @@
 use Rattle.std.proofs.Common.{◌≡◌, ℕ, length, refl, sym, subst, arith}
-use Rattle.std.specs.Prelude.{true, false}
+use Rattle.std.specs.Prelude.{None, Some, true, false}
 use Rattle.std.proofs.lemmas.Option.{slice_get_read}
 use Rattle.location_ranges.specs.steps.Places.{IsEmpty}
 use Rattle.location_ranges.specs.steps.Walk.{IsPointIn, HaveSaid}
@@ -11,10 +11,11 @@ loop-entry-init c = record {
   fits = record {
     stand = c.in_ok-stand.ensures.fits;
     firsts = subst IsEmpty (sym c.new.ensures.items) (λ k. refl);
-    places = omega (arith, c.in_ok-vec.ensures.len, c.in_ok-vec.field-0.ok.0);
-    changed = omega (arith, c.in_ok-vec-2.ensures.len, c.in_ok-vec-2.field-0.ok.0);
+    places = omega (arith, c.in_ok-vec.ensures.len, c.in_ok-vec.field-0.ok.0, c.len.ensures);
+    changed = omega (arith, c.in_ok-vec-2.ensures.len, c.in_ok-vec-2.field-0.ok.0, c.len-2.ensures);
     tracks = c.requires.tracks;
     turned = λ e. absurd (let no : false ≡ true = e in cc);
+    seen = λ z e. absurd (let no : None ≡ Some z = e in cc);
   };
   stands = λ are. c.in_ok-stand.ensures.stands c.args.blocks.now are;
   said = λ variables base end stand groups said. said;

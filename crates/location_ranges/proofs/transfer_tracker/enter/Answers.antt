@@ -1,7 +1,7 @@
 use Rattle.std.proofs.Common.{ℕ, List, map, refl, subst, get_or}
 use Rattle.std.proofs.lemmas.Option.{slice_get-get_or}
-use Rattle.value_proof.specs.Classes.{Classes}
-use Rattle.value_solver.specs.Entry.{thing}
+use Rattle.value_tracker.specs.value_proof.Classes.{Classes}
+use Rattle.value_tracker.specs.value_solver.Entry.{thing}
 use Rattle.value_tracker.specs.Things.{Settle}
 use Rattle.value_tracker.specs.LocationTracker.{Holds}
 use Rattle.value_tracker.specs.Start.{ConstantsNow}

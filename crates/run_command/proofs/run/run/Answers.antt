@@ -7,8 +7,8 @@ use Rattle.dwarf_loclists.specs.declared.range.Range.{Range}
 use Rattle.compile_program.specs.Program.{CompiledFunction, lists_of}
 use Rattle.compile_program.specs.declared.compile.Compilation.{Compilation}
 use Rattle.sim_start.specs.InitialMachine.{IsTextOfAskedRun}
-use Rattle.sim_trace.specs.declared.variable.Variable.{Variable}
-use Rattle.sim_trace.specs.Variables.{variable_of}
+use Rattle.sim_start.specs.sim_trace.declared.variable.Variable.{Variable}
+use Rattle.sim_start.specs.sim_trace.Variables.{variable_of}
 use Rattle.run_command.specs.Runs.{HasNone, IsFirstNamed, IsRunOf}
 use Rattle.run_command.proofs.run.run.Goals as goal
 

@@ -5,7 +5,7 @@ use Rattle.rv64_instr.specs.Row.{row_of}
 use Rattle.emit_code.specs.Laid.{LaidCode, IsCode}
 use Rattle.sem_machine.specs.MachineStep.{call_of}
 use Rattle.sim_machine.specs.steps.Sites.{instruction_in}
-use Rattle.sim_machine.proofs.Sites.{call_site, word_place}
+use Rattle.sim_machine.proofs.Sites.{call_site, physical_at, word_place}
 use Rattle.sim_machine.proofs.site.call_at.Goals as goal
 
 pub unreachable-requires : goal.unreachable-requires
@@ -30,6 +30,10 @@ returns-clause-same c =
     let some : Some c.in-Some.i.now ≡ Some site.code = sym c.in-Some.ensures ∙ (f ∙ site.at) in
     let same : c.in-Some.i.now ≡ site.code = cc in
     site.same ∙ ap (λ (i : Instruction). call_of (row_of i)) (sym same)
+
+pub returns-clause-physical : goal.returns-clause-physical
+returns-clause-physical c =
+    physical_at c.code.inside.framed c.args.entry.now.point c.in-Some.i.now c.know_physical.ensures c.in-Some.ensures
 
 pub returns-clause-low : goal.returns-clause-low
 returns-clause-low c =

@@ -29,12 +29,12 @@ returns-clause-values c =
           (things_enough blocks c.args.subs.now c.in_ok-variables.field-0.variables tracked c.in_ok-variables.ensures.things c.in_ok-variables.ensures.knows);
       used = subst (λ (z : List Block). All (IsUsed z (resolve c.args.subs.now) c.args.asked.now) tracked) same c.in_ok-variables.ensures.used;
       entries = λ b e at.
-          subst (λ (xs : List Tracked). IsEntry (framed_program c.args.framed.now.blocks (resolve c.args.subs.now)) xs b e) c.as_slice-2.ensures
-          (subst (λ (z : List Block). IsEntry (framed_program z (resolve c.args.subs.now)) c.as_slice-2.result.now b e) same
+          subst (λ (xs : List Tracked). IsEntry (framed_program c.args.framed.now.blocks (resolve c.args.subs.now)) xs b e) c.as_slice.ensures
+          (subst (λ (z : List Block). IsEntry (framed_program z (resolve c.args.subs.now)) c.as_slice.result.now b e) same
           (c.in_ok-solved.ensures.entries b e at));
       for_all = c.in_ok-solved.ensures.for_all ∙ ap (length {A = Block}) same;
       sweeps = subst (λ (z : List Block). c.in_ok-solved.solved.sweeps ≤ 2 * length tracked * length z + 1) same
-          (subst (λ (xs : List Tracked). c.in_ok-solved.solved.sweeps ≤ 2 * length xs * length blocks + 1) c.as_slice-2.ensures
+          (subst (λ (xs : List Tracked). c.in_ok-solved.solved.sweeps ≤ 2 * length xs * length blocks + 1) c.as_slice.ensures
           c.in_ok-solved.ensures.sweeps);
     }
 

@@ -1,5 +1,6 @@
 use Rattle.std.proofs.Common.{
   ◌≡◌,
+  ◌≢◌,
   ◌<◌,
   ◌≤◌,
   ◌+◌,
@@ -11,6 +12,7 @@ use Rattle.std.proofs.Common.{
   get_or,
   arith,
   refl,
+  ap,
   subst,
   sym,
   ◌∙◌,
@@ -54,18 +56,24 @@ first_left places firsts are c k e = by_first (get_or firsts c None) e (are c) w
     subst (λ (z : ℕ). get_or places z 0 ≡ c) is h.2,
   )
 
-none_left : (places : List ℕ) (firsts : List (Option ℕ)) (i : ℕ) → length places ≤ i → Left places firsts i → (c : ℕ) → get_or firsts c None ≡ None
-none_left places firsts i end left c = by_first (get_or firsts c None) refl where
+none_left : (places : List ℕ) (firsts : List (Option ℕ)) (end i : ℕ) → end ≤ i → ((k : ℕ) → end ≤ k → get_or places k 0 ≡ 0) → Left places firsts i →
+    (c : ℕ) → c ≢ 0 → get_or firsts c None ≡ None
+none_left places firsts end i past rest left c other = by_first (get_or firsts c None) refl where
   by_first : (o : Option ℕ) → get_or firsts c None ≡ o → o ≡ None
   by_first None e = refl
-  by_first (Some k) e = let l = left c k e in absurd (omega (arith, l.0, l.1, end))
+  by_first (Some k) e = let l = left c k e in absurd (other (sym l.2 ∙ rest k (omega (arith, l.0, past))))
 
 pub loop-i-init : goal.loop-i-init
 loop-i-init c = first_left c.args.places.now c.args.firsts.now c.requires.filled
 
 pub loop-i-preserved : goal.loop-i-preserved
 loop-i-preserved c = left_on c.args.places.now c.loop-i.firsts c.loop-i.i (omega
-    (arith, c.requires.room c.loop-i.i c.loop-i-test.true, c.loop-i.auto.firsts)) c.loop-i.invariant
+    (arith, c.requires.room c.loop-i.i (omega (arith, c.loop-i-test.true, c.end_of-end.ensures.within)), c.loop-i.auto.firsts)) c.loop-i.invariant
 
 pub returns : goal.returns
-returns c = none_left c.args.places.now c.loop-i.firsts c.loop-i.i c.loop-i-test.false c.loop-i.invariant
+returns c = λ k. elim (eqb_tells k 0) [
+  | inl h ↦ ap (λ (n : ℕ). get_or c.clear_first.new.firsts n None) h.1 ∙ c.clear_first.ensures.none
+  | inr h ↦
+      c.clear_first.ensures.others k h.1
+      ∙ none_left c.args.places.now c.loop-i.firsts c.end_of-end.result c.loop-i.i c.loop-i-test.false c.end_of-end.ensures.rest c.loop-i.invariant k h.1
+]

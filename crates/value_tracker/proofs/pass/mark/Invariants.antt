@@ -1,13 +1,15 @@
-use Rattle.std.proofs.Common.{◌≡◌, ◌<◌, ◌≤◌, ℕ, get_or, length}
-use Rattle.std.specs.Prelude.{Some, slice_get}
-use Rattle.mir_func.specs.declared.variable.VarId.{VarId}
-use Rattle.value_tracker.specs.LocationTracker.{part_past}
+use Rattle.std.proofs.Common.{◌≡◌, ◌-◌, ◌<◌, ◌≤◌, length}
+use Rattle.value_tracker.specs.Chains.{key_of, IsPartOf}
+use Rattle.value_tracker.proofs.Chaining.{PastFrom}
 use Rattle.value_tracker.proofs.pass.mark.Given as goal
 
-abbrev pub invariant-loop-j : goal.invariant-loop-j
-invariant-loop-j l = record {
+abbrev pub invariant-loop-end : goal.invariant-loop-end
+invariant-loop-end l = record {
   count : length l.parts.items ≡ length l.variables;
-  done : (i : ℕ) (w : VarId) → i < l.j → slice_get l.variables i ≡ Some w →
-      get_or l.parts.items i 0 ≡ part_past l.variable l.class w (get_or l.initial.parts.items i 0);
-  left : (i : ℕ) → l.j ≤ i → get_or l.parts.items i 0 ≡ get_or l.initial.parts.items i 0;
+  within : l.end ≤ length l.variables;
+  last : 0 < l.end → IsPartOf l.variables (key_of l.variable) (l.end - 1);
+  past : PastFrom l.variables l.variable l.class l.initial.parts.items l.end l.parts.items;
 }
+
+abbrev pub decreases-loop-end : goal.decreases-loop-end
+decreases-loop-end l = l.end

@@ -22,4 +22,4 @@ returns-clause-holds c = λ class settle.
     (slice_index c.place.new.places.items p))) c.number_class.ensures)
     (λ q. ap (λ es. lookup (is_key q) es) c.new.ensures.empty)
     (λ j lt. first_so_many (length c.args.variables.now) c.args.settled.now c.in_ok-from_slice.field-0.items j lt (omega
-    (arith, c.requires.variables, c.requires.settled)) c.in_ok-from_slice.ensures.items) c.in_ok-next_after.ensures
+    (arith, c.requires.variables, c.requires.settled)) (c.in_ok-from_slice.ensures.items ∙ ap (λ (n : ℕ). take n c.args.settled.now) c.len.ensures)) c.in_ok-next_after.ensures

@@ -1,6 +1,7 @@
 use Rattle.std.proofs.Common.{◌≡◌, true, refl, subst}
 use Rattle.mir_func.specs.Resolve.{resolve}
-use Rattle.value_tracker.specs.LocationTracker.{Passes}
+use Rattle.value_tracker.specs.LocationTracker.{Passes, is_mark}
+use Rattle.location_ranges.proofs.Resting.{stays_plain, stays_item}
 use Rattle.location_ranges.proofs.Standing.{stays_unreached, leaves_unreached, passes_on}
 use Rattle.location_ranges.proofs.transfer_tracker.TransferTracker.pass.Goals as goal
 
@@ -21,3 +22,13 @@ returns-clause-stands c = λ blocks are fetch stands.
     c.as_slice.ensures.value c.in_ok-pass_held.ensures.passes in
     passes_on blocks v c.args.index.now are c.args.self.now c.args.item.now _ stands c.if-not-self.false fetch (c.falls.ensures.0 c.if-not-falls.false)
     passes c.if-not-self.false refl refl refl refl
+
+pub returns-then-not-self-clause-stays : goal.returns-then-not-self-clause-stays
+returns-then-not-self-clause-stays c = stays_plain c.args.self.now _ refl refl refl refl
+
+pub returns-then-not-falls-clause-stays : goal.returns-then-not-falls-clause-stays
+returns-then-not-falls-clause-stays c = stays_plain c.args.self.now _ refl refl refl refl
+
+pub returns-clause-stays : goal.returns-clause-stays
+returns-clause-stays c =
+    stays_item c.args.self.now _ (is_mark c.args.item.now.kind) refl refl c.marked_past-self.ensures c.in_ok-pass_held.ensures.stay

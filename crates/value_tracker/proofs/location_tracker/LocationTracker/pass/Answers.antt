@@ -1,8 +1,8 @@
-use Rattle.std.proofs.Common.{sym, subst}
-use Rattle.std.specs.Prelude.{OnOk}
+use Rattle.std.proofs.Common.{◌≡◌, sym, ap, ◌∙◌, subst}
+use Rattle.std.specs.Prelude.{OnOk, true, false}
 use Rattle.mir_func.specs.declared.item.ItemKind.{ItemKind}
 use Rattle.mir_func.specs.Resolve.{resolve}
-use Rattle.value_tracker.specs.LocationTracker.{Passes}
+use Rattle.value_tracker.specs.LocationTracker.{Passes, is_mark}
 use Rattle.value_tracker.proofs.location_tracker.LocationTracker.pass.Goals as goal
 
 pub returns-in-Code-clause-passes : goal.returns-in-Code-clause-passes
@@ -22,3 +22,6 @@ returns-in-Phi-clause-passes c =
     let block = c.args.block.now in
     subst (λ (k : ItemKind). OnOk c.pass_phi.result (Passes block.variables.now block.index.now block.settled.now
     (resolve block.subs.now) c.args.self.now c.pass_phi.new.self k)) (sym c.in-Phi.is) c.pass_phi.ensures.passes
+
+pub returns-in-Mark-clause-stay : goal.returns-in-Mark-clause-stay
+returns-in-Mark-clause-stay c = λ e. absurd (let no : true ≡ false = ap is_mark (sym c.in-Mark.is) ∙ e in cc)

@@ -6,7 +6,7 @@ use Rattle.value_solver.specs.declared.tracked.Tracked.TheVariants.{Part}
 use Rattle.value_live_ins.specs.Gathering.{IsGathered, AppendsOnly, HasPart}
 use Rattle.value_live_ins.specs.Used.{IsNamed}
 use Rattle.value_live_ins.proofs.Each.{EachBelow}
-use Rattle.value_live_ins.proofs.things.parts_of.Given as goal
+use Rattle.value_live_ins.proofs.things.gather_parts.Given as goal
 
 abbrev pub invariant-loop-block : goal.invariant-loop-block
 invariant-loop-block l = record {
