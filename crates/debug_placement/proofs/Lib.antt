@@ -1,3 +1,4 @@
 pub mod Placing
 pub mod LineProofs
 pub mod FrameProofs
+pub mod EntryProofs

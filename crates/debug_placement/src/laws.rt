@@ -3,11 +3,16 @@
 ghost use Rattle.std.specs.Prelude.{◌≡◌, ◌<◌, ◌^◌, ℕ, List, map, All};
 ghost use Rattle.dwarf_frame.specs.declared.table.FrameDescription.{FrameDescription};
 ghost use Rattle.dwarf_frame.specs.Spelling.{spelling as frame_spelling};
+ghost use Rattle.dwarf_info.specs.declared.inlined.InlinedUnit.{InlinedUnit};
+ghost use Rattle.dwarf_info.specs.declared.unit.Unit.{Unit as CompilationUnit};
 ghost use Rattle.dwarf_line.specs.declared.table.LineTable.{LineTable};
 ghost use Rattle.dwarf_line.specs.Spelling.{spelling as line_spelling};
 ghost use Rattle.dwarf_line.specs.Table.{IsSequence};
 ghost use Rattle.elf_content.specs.Content.{placed, relocations_from, symbol_address, written};
 ghost use Rattle.elf_relocation.specs.Applied.{applied};
+ghost use Rattle.debug_placement.specs.declared.sections.UnitSections.{UnitSections};
+ghost use Rattle.debug_placement.specs.Entries.{info_pieces, inlined_pieces, inlined_spelling_in, spelling_in};
+ghost use Rattle.debug_placement.specs.Entries.{unit_places, HasRangesBelow, UnitFits};
 ghost use Rattle.debug_placement.specs.Frames;
 ghost use Rattle.debug_placement.specs.Frames.{frame_pieces, moved_description, spelling_by};
 ghost use Rattle.debug_placement.specs.Lines;
@@ -35,4 +40,18 @@ pub fn placed_frames_are_moved()
     // Where the section lies at 0, that is the one encoding of the moved functions.
     ensures alone { (undefined : List ℕ) (functions : List FrameDescription)
         → spelling_by 0 undefined functions ≡ frame_spelling undefined functions }
+{}
+
+/// Wherever code and sections lie, the section of debugging information entries after its relocations is that of the
+/// same entries with each address moved by where code lies, and each offset by where its section does.
+pub fn placed_entries_are_moved()
+    ensures plain { (s : UnitSections) (u : CompilationUnit) (place : ℕ) (addresses : List ℕ)
+        → UnitFits (unit_places addresses s) u.functions
+        → applied place addresses (relocations_from 0 (info_pieces s u)) (written (info_pieces s u))
+        ≡ spelling_in (unit_places addresses s) u }
+    ensures inlined { (s : UnitSections) (u : InlinedUnit) (place : ℕ) (addresses : List ℕ)
+        → UnitFits (unit_places addresses s) (map (λ f. f.function) u.functions)
+        → HasRangesBelow (unit_places addresses s)
+        → applied place addresses (relocations_from 0 (inlined_pieces s u)) (written (inlined_pieces s u))
+        ≡ inlined_spelling_in (unit_places addresses s) u }
 {}

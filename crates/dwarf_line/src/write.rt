@@ -113,7 +113,7 @@ fn push_program(out: &mut Vec<u8>, sequences: &[Sequence]) -> Result<(), AllocEr
 }
 
 /// Appends a sequence: its first address, its rows, and its end.
-fn push_sequence(out: &mut Vec<u8>, rows: &[Row], end: u64) -> Result<(), AllocError>
+pub fn push_sequence(out: &mut Vec<u8>, rows: &[Row], end: u64) -> Result<(), AllocError>
     requires { HasRows rows.now end }
     ensures bytes { OnOk result (out.new.items ≡ out.old.items ++ sequence (record { rows = rows.now; end = end })) }
     ensures ranges { OnOk result (All IsRow rows.now × (end < 2 ^ 64)) }

@@ -23,7 +23,7 @@ none_parts s ss e = by (is_local s.binding) e
 none_more : (s : Symbol) (ss : List Symbol) → is_local s.binding ≡ false → none_local ss ≡ true → none_local (s ∷ ss) ≡ true
 none_more s ss e none = ap (λ b. if b then false else none_local ss) e ∙ none
 
-none_append : (ss more : List Symbol) → none_local ss ≡ true → none_local more ≡ true → none_local (ss ++ more) ≡ true
+pub none_append : (ss more : List Symbol) → none_local ss ≡ true → none_local more ≡ true → none_local (ss ++ more) ≡ true
 none_append [] more none others = others
 none_append (s ∷ ss) more none others =
     let parts = none_parts s ss none in none_more s (ss ++ more) parts.0 (none_append ss more parts.1 others)
@@ -36,12 +36,12 @@ none_with known s none e = by (list_any (have_one_name s) known)
     by true = none
     by false = none_append known (s ∷ []) none (none_more s [] e refl)
 
-none_used : (known ss : List Symbol) → none_local known ≡ true → none_local ss ≡ true → none_local (first_uses have_one_name known ss) ≡ true
+pub none_used : (known ss : List Symbol) → none_local known ≡ true → none_local ss ≡ true → none_local (first_uses have_one_name known ss) ≡ true
 none_used known [] none others = none
 none_used known (s ∷ ss) none others =
     let parts = none_parts s ss others in none_used (with_new have_one_name known s) ss (none_with known s none parts.0) parts.1
 
-none_defined : (functions : List ListedFunction) → none_local (map defined_symbol functions) ≡ true
+pub none_defined : (functions : List ListedFunction) → none_local (map defined_symbol functions) ≡ true
 none_defined [] = refl
 none_defined (f ∷ functions) = none_defined functions
 
@@ -57,7 +57,7 @@ none_of functions =
 
 -- ---- what follows
 
-first_of : (ss : List Symbol) → none_local ss ≡ true → locals_first ss ≡ true
+pub first_of : (ss : List Symbol) → none_local ss ≡ true → locals_first ss ≡ true
 first_of [] none = refl
 first_of (s ∷ ss) none =
     let parts = none_parts s ss none in ap (λ b. if b then locals_first ss else none_local ss) parts.0 ∙ parts.1

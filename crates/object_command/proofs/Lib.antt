@@ -1,4 +1,4 @@
-mod SymbolLemmas
-mod SizeLemmas
-mod ObjectLemmas
-mod GlobalSymbols
+pub mod SymbolLemmas
+pub mod SizeLemmas
+pub mod ObjectLemmas
+pub mod GlobalSymbols

@@ -13,7 +13,7 @@ use Rattle.object_command.specs.Object.{object_of, HaveSymbolNames, IsObjectOf}
 -- ---- names of sections
 
 -- whether no byte is zero
-abbrev is_string : List ℕ → Bool
+abbrev pub is_string : List ℕ → Bool
 is_string [] = true
 is_string (zero ∷ bytes) = false
 is_string (suc n ∷ bytes) = is_string bytes
@@ -23,7 +23,7 @@ above [] e = tt
 above (zero ∷ bytes) e = absurd (true≢false (sym e))
 above (suc n ∷ bytes) e = (omega arith, above bytes e)
 
-string : (name : List ℕ) → is_string name ≡ true → IsName name
+pub string : (name : List ℕ) → is_string name ≡ true → IsName name
 string name e = All-from_recursion (λ (byte : ℕ). 0 < byte) name (above name e)
 
 pub sections_named : (o : Output) → All IsNamed (object_of o).sections

@@ -18,7 +18,7 @@ use Rattle.object_command.specs.Object.{symbols_of, relocations_of, text_section
 part : (end len rest whole : ℕ) → whole ≡ (end + len) + rest → len ≤ whole
 part end len rest whole e = omega (arith, e)
 
-through : (a b c : ℕ) → a ≤ b → b ≤ c → a ≤ c
+pub through : (a b c : ℕ) → a ≤ b → b ≤ c → a ≤ c
 through a b c first second = omega (arith, first, second)
 
 behind : (at : ℕ) (front : List Section) (s : Section) (rest : List Section)
@@ -27,7 +27,7 @@ behind at [] s rest = part (aligned at) (length s.bytes) _ _ (length-contents at
 behind at (t ∷ front) s rest =
     subst (λ n. length s.bytes ≤ n) (sym (length-contents at t (front ++ s ∷ rest))) (behind (aligned at + length t.bytes) front s rest)
 
-within_file : (o : Object) (front : List Section) (s : Section) (rest : List Section) → o.sections ≡ front ++ s ∷ rest
+pub within_file : (o : Object) (front : List Section) (s : Section) (rest : List Section) → o.sections ≡ front ++ s ∷ rest
     → length s.bytes ≤ length (spelling o)
 within_file o front s rest e =
     through (length s.bytes) (64 + length (contents 64 o.sections)) (length (spelling o))
@@ -46,7 +46,7 @@ length-symbols at (s ∷ rest) =
     counted : (n : ℕ) → 24 + 24 * n ≡ 24 * suc n
     counted n = omega arith
 
-length-table : (ss : List Symbol) → length (symbol_table ss) ≡ 24 + 24 * length ss
+pub length-table : (ss : List Symbol) → length (symbol_table ss) ≡ 24 + 24 * length ss
 length-table ss =
     length-append (replicate 24 0) (symbols_from 1 ss) ∙ ap (λ n. n + length (symbols_from 1 ss)) (length-replicate {A = ℕ} 24 0)
     ∙ ap (λ n. 24 + n) (length-symbols 1 ss)

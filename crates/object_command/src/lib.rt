@@ -5,7 +5,7 @@
 pub mod calls;
 mod halves;
 pub mod laws;
-mod names;
+pub mod names;
 pub mod object;
 mod sections;
-mod symbols;
+pub mod symbols;

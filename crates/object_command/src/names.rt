@@ -19,14 +19,14 @@ pub fn have_symbol_names(functions: &[ListedFunction], sites: &[CallSite]) -> bo
 }
 
 /// Whether a name can be a symbol's: it isn't empty, and has no zero byte.
-fn is_symbol_name(name: &[u8]) -> bool
+pub fn is_symbol_name(name: &[u8]) -> bool
     ensures { IsTrue result ↔ IsSymbolName name.now }
 {
     !name.is_empty() && is_name(name)
 }
 
 /// Whether the functions' names can be symbols'.
-fn are_functions_named(functions: &[ListedFunction]) -> bool
+pub fn are_functions_named(functions: &[ListedFunction]) -> bool
     ensures { IsTrue result ↔ All (λ f. IsSymbolName f.name) functions.now }
 {
     for function in functions {

@@ -26,7 +26,7 @@ pub type Relocations = List<Relocation>;
 /// The index of `.text` in the section header table.
 pub const TEXT: u16 = 1;
 /// The most symbols of an object. With more its file has 2^31 bytes or more.
-const MAX_SYMBOLS: usize = 0x800_0000;
+pub const MAX_SYMBOLS: usize = 0x800_0000;
 
 /// The symbols of functions and of their call sites, and the relocations of the call sites. The error `TooLarge` is
 /// that there are more than 2^27 symbols.
@@ -49,7 +49,7 @@ pub fn link(
 }
 
 /// Adds the symbols of functions, unless they have a symbol's name.
-fn push_functions(
+pub fn push_functions(
     alloc: Global,
     names: &mut NameTable,
     symbols: &mut Symbols,
@@ -105,7 +105,7 @@ fn push_sites(
 
 /// The index of the symbol with this one's name, from 0. If there is none, this one is added. `names` is the symbols'
 /// names.
-fn number(
+pub fn number(
     alloc: Global,
     names: &mut NameTable,
     symbols: &mut Symbols,

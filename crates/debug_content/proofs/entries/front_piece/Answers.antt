@@ -1,0 +1,8 @@
+use Rattle.std.proofs.Common.{List, ℕ, ap, ◌∙◌}
+use Rattle.elf_content.specs.declared.piece.Piece.TheVariants.{Fixed}
+use Rattle.debug_content.proofs.Parts.{two_appends}
+use Rattle.debug_content.proofs.entries.front_piece.Goals as goal
+
+pub returns : goal.returns
+returns c =
+    ap (λ (bs : List ℕ). Fixed bs) (c.from.ensures ∙ two_appends _ _ _ _ _ c.new-front.ensures.items c.in_ok-push_code.ensures c.in_ok-push_text.ensures)

@@ -1,0 +1,5 @@
+pub mod Standard
+pub mod Declarations
+pub mod Entries
+pub mod Grammar
+pub mod steps

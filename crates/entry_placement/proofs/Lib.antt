@@ -1,0 +1,4 @@
+pub mod Placing
+pub mod Growth
+pub mod Growing
+pub mod Units

@@ -1,0 +1,2 @@
+mod Resolving
+mod Appended

@@ -1,0 +1,5 @@
+pub mod Keeping
+mod Clearing
+pub mod Locating
+pub mod Entries
+pub mod Telling

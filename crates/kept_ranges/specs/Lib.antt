@@ -1,0 +1,4 @@
+pub mod Calls
+pub mod Kept
+pub mod Lists
+pub mod steps

@@ -1,0 +1,2 @@
+mod Referred
+pub mod Written

@@ -1,0 +1,372 @@
+-- The object of an output can be written.
+use Rattle.std.specs.Prelude.{codes, All, Option, Some, None, IsNone, is_some, Result, Ok, Err, IfOk}
+use Rattle.std.specs.List.{AllByRecursion, list_any}
+use Rattle.std.proofs.Common.{◌≡◌, ℕ, suc, ◌+◌, ◌*◌, ◌^◌, ◌<◌, ◌≤◌, Bool, true, false, if◌then◌else◌, List, [], ◌∷◌, ◌++◌, length, map, arith, ap, sym, refl}
+use Rattle.std.proofs.Common.{◌∙◌, subst, append_assoc, length-append, ◌⊎◌, inl, inr, true≢false}
+use Rattle.std.proofs.lemmas.List.{length-map}
+use Rattle.std.proofs.lemmas.List.Elements.{All-nil, All-from_recursion, recursion_from_All}
+use Rattle.dwarf_frame.specs.declared.table.FrameDescription.{FrameDescription}
+use Rattle.dwarf_frame.specs.Table.{AreUndefined, MayBeLost, is_fixed}
+use Rattle.dwarf_line_table.specs.Files.{with_new, first_uses}
+use Rattle.debug_placement.specs.Entries.{info_pieces}
+use Rattle.debug_placement.specs.Lines.{line_pieces}
+use Rattle.elf_object.specs.declared.object.Section.{Section}
+use Rattle.elf_object.specs.declared.object.Object.{Object}
+use Rattle.elf_object.specs.declared.relocations.Relocation.{Relocation}
+use Rattle.elf_object.specs.declared.symbols.Symbol.{Symbol}
+use Rattle.elf_object.specs.Grammar.{IsName, IsNamed, IsAligned, IsObject}
+use Rattle.elf_object.specs.Relocations.{FitsRelocation}
+use Rattle.elf_object.specs.Spelling.{spelling}
+use Rattle.elf_object.specs.Symbols.{none_local, locals_first, LocalsFirst, symbol_table, symbol_names, FitsSymbol}
+use Rattle.elf_linkable.specs.declared.section.LinkableSection.{LinkableSection}
+use Rattle.elf_linkable.specs.Linkable.{section_symbols, content_section, relocation_section_if, relocation_sections, stack_section, symbol_section}
+use Rattle.elf_linkable.specs.Linkable.{name_section, table_index, object_of, IsLinkableFile}
+use Rattle.listing_text.specs.declared.output.ListedFunction.{ListedFunction}
+use Rattle.listing_text.specs.declared.output.Output.{Output}
+use Rattle.object_command.specs.declared.object.ObjectError.{ObjectError}
+use Rattle.object_command.specs.Object.{defined_symbol, have_one_name, IsSymbolName}
+use Rattle.object_command.proofs.GlobalSymbols.{none_append, none_used, none_defined, first_of}
+use Rattle.object_command.proofs.ObjectLemmas.{string}
+use Rattle.object_command.proofs.SizeLemmas.{within_file, through, length-table}
+use Rattle.linkable_command.specs.declared.reference.Reference.{Reference}
+use Rattle.linkable_command.specs.declared.tables.DebugTables.{DebugTables}
+use Rattle.linkable_command.specs.References.{references}
+use Rattle.linkable_command.specs.Symbols.{undefined_symbol, named_symbols}
+use Rattle.linkable_command.specs.Linkable.{TEXT, UNIT_SECTIONS, LOST, content_of, plain_content, text_section, debug_section, frame_sections, sections_by}
+use Rattle.linkable_command.specs.Linkable.{sections_of, symbols_of, HaveLinkableNames, HasLargeLinkable, IsLinkableObject}
+use Rattle.linkable_command.specs.steps.Sections.{AreFew, IsPlain}
+
+-- ---- sections
+
+frames_few : (frames : Option (List FrameDescription)) → length (frame_sections frames) ≤ 1
+frames_few None = omega arith
+frames_few (Some functions) = omega arith
+
+pub few : (rs : List Relocation) (text abbreviations lists : List ℕ) (t : DebugTables) → AreFew (sections_by rs text abbreviations lists t)
+few rs text abbreviations lists t = omega (arith, frames_few t.frames)
+
+frames_plain : (frames : Option (List FrameDescription)) → AllByRecursion IsPlain (frame_sections frames)
+frames_plain None = tt
+frames_plain (Some functions) = (record { name = string (codes ".debug_frame") refl; alignment = refl }, tt)
+
+pub plain : (rs : List Relocation) (text abbreviations lists : List ℕ) (t : DebugTables) → All IsPlain (sections_by rs text abbreviations lists t)
+plain rs text abbreviations lists t =
+    All-from_recursion IsPlain (sections_by rs text abbreviations lists t) (
+      record { name = string (codes ".text") refl; alignment = refl },
+      (
+        record { name = string (codes ".debug_abbrev") refl; alignment = refl },
+        (
+          record { name = string (codes ".debug_info") refl; alignment = refl },
+          (
+            record { name = string (codes ".debug_line") refl; alignment = refl },
+            (record { name = string (codes ".debug_loclists") refl; alignment = refl }, frames_plain t.frames),
+          ),
+        ),
+      ),
+    )
+
+pub all_sections_made : (rs : List Relocation) (text abbreviations lists : List ℕ) (t : DebugTables)
+    (none one two three four five six : List LinkableSection) (a b c d e : LinkableSection) → none ≡ [] → one ≡ none ++ a ∷ [] → two ≡ one ++ b ∷ []
+    → three ≡ two ++ c ∷ [] → four ≡ three ++ d ∷ [] → five ≡ four ++ e ∷ [] → six ≡ five ++ frame_sections t.frames → a ≡ text_section text rs
+    → b ≡ debug_section (codes ".debug_abbrev") (plain_content abbreviations)
+    → c ≡ debug_section (codes ".debug_info") (content_of (info_pieces UNIT_SECTIONS t.unit))
+    → d ≡ debug_section (codes ".debug_line") (content_of (line_pieces TEXT t.rows)) → e ≡ debug_section (codes ".debug_loclists") (plain_content lists)
+    → six ≡ sections_by rs text abbreviations lists t
+all_sections_made rs text abbreviations lists t none one two three four five six a b c d e is_none is_one is_two is_three is_four is_five is_six is_a is_b
+    is_c is_d is_e =
+    is_six
+    ∙ (λ i. (is_five
+    ∙ (λ j. (is_four ∙ (λ k. (is_three ∙ (λ l. (is_two ∙ (λ m. (is_one ∙ (λ n. is_none n ++ is_a n ∷ [])) m ++ is_b m ∷ [])) l ++ is_c l ∷ [])) k
+    ++ is_d k ∷ [])) j ++ is_e j ∷ [])) i ++ frame_sections t.frames)
+
+-- ---- registers whose values a function may lose
+
+pub lost_undefined : AreUndefined LOST
+lost_undefined = record { each = All-from_recursion MayBeLost LOST lost_each; few = omega arith }
+  where
+    low : (r : ℕ) → r < 32 → is_fixed r ≡ false → MayBeLost r
+    low r lt own = (lt, own)
+
+    lost_each : AllByRecursion MayBeLost LOST
+    lost_each = (
+      low 5 (omega arith) refl,
+      (
+        low 6 (omega arith) refl,
+        (
+          low 7 (omega arith) refl,
+          (
+            low 10 (omega arith) refl,
+            (
+              low 11 (omega arith) refl,
+              (
+                low 12 (omega arith) refl,
+                (
+                  low 13 (omega arith) refl,
+                  (
+                    low 14 (omega arith) refl,
+                    (
+                      low 15 (omega arith) refl,
+                      (
+                        low 16 (omega arith) refl,
+                        (
+                          low 17 (omega arith) refl,
+                          (
+                            low 28 (omega arith) refl,
+                            (
+                              low 29 (omega arith) refl,
+                              (
+                                low 30 (omega arith) refl,
+                                (
+                                  low 31 (omega arith) refl,
+                                  tt,
+                                ),
+                              ),
+                            ),
+                          ),
+                        ),
+                      ),
+                    ),
+                  ),
+                ),
+              ),
+            ),
+          ),
+        ),
+      ),
+    )
+
+-- ---- symbols
+
+none_undefined : (rs : List Reference) → none_local (map undefined_symbol rs) ≡ true
+none_undefined [] = refl
+none_undefined (r ∷ rs) = none_undefined rs
+
+none_named : (functions : List ListedFunction) → none_local (named_symbols functions) ≡ true
+none_named functions =
+    none_used [] (map defined_symbol functions ++ map undefined_symbol (references functions)) refl
+    (none_append (map defined_symbol functions) (map undefined_symbol (references functions)) (none_defined functions)
+    (none_undefined (references functions)))
+
+behind_sections : (k : ℕ) (sections : List LinkableSection) (ss : List Symbol) → locals_first ss ≡ true
+    → locals_first (section_symbols k sections ++ ss) ≡ true
+behind_sections k [] ss first = first
+behind_sections k (s ∷ sections) ss first = behind_sections (suc k) sections ss first
+
+pub locals : (sections : List LinkableSection) (functions : List ListedFunction) → LocalsFirst (section_symbols 1 sections ++ named_symbols functions)
+locals sections functions = behind_sections 1 sections (named_symbols functions) (first_of (named_symbols functions) (none_named functions))
+
+abbrev IsNamedSymbol : Symbol → Type 0
+IsNamedSymbol s = IsName s.name
+
+all_behind : (ss : List Symbol) (s : Symbol) → AllByRecursion IsNamedSymbol ss → IsNamedSymbol s → AllByRecursion IsNamedSymbol (ss ++ s ∷ [])
+all_behind [] s all is = (is, tt)
+all_behind (t ∷ ss) s all is = (all.0, all_behind ss s all.1 is)
+
+all_with : (known : List Symbol) (s : Symbol) → AllByRecursion IsNamedSymbol known → IsNamedSymbol s
+    → AllByRecursion IsNamedSymbol (with_new have_one_name known s)
+all_with known s all is = by (list_any (have_one_name s) known)
+  where
+    by : (b : Bool) → AllByRecursion IsNamedSymbol (if b then known else known ++ s ∷ [])
+    by true = all
+    by false = all_behind known s all is
+
+all_used : (known ss : List Symbol) → AllByRecursion IsNamedSymbol known → AllByRecursion IsNamedSymbol ss
+    → AllByRecursion IsNamedSymbol (first_uses have_one_name known ss)
+all_used known [] all others = all
+all_used known (s ∷ ss) all others = all_used (with_new have_one_name known s) ss (all_with known s all others.0) others.1
+
+all_append : (ss more : List Symbol) → AllByRecursion IsNamedSymbol ss → AllByRecursion IsNamedSymbol more → AllByRecursion IsNamedSymbol (ss ++ more)
+all_append [] more all others = others
+all_append (s ∷ ss) more all others = (all.0, all_append ss more all.1 others)
+
+all_defined : (functions : List ListedFunction) → AllByRecursion (λ f. IsSymbolName f.name) functions
+    → AllByRecursion IsNamedSymbol (map defined_symbol functions)
+all_defined [] all = tt
+all_defined (f ∷ functions) all = (all.0.string, all_defined functions all.1)
+
+all_referred : (rs : List Reference) → AllByRecursion (λ r. IsSymbolName r.name) rs → AllByRecursion IsNamedSymbol (map undefined_symbol rs)
+all_referred [] all = tt
+all_referred (r ∷ rs) all = (all.0.string, all_referred rs all.1)
+
+all_sections : (k : ℕ) (sections : List LinkableSection) (ss : List Symbol) → AllByRecursion IsNamedSymbol ss
+    → AllByRecursion IsNamedSymbol (section_symbols k sections ++ ss)
+all_sections k [] ss all = all
+all_sections k (s ∷ sections) ss all = (All-nil (λ (byte : ℕ). 0 < byte), all_sections (suc k) sections ss all)
+
+pub symbols_named : (sections : List LinkableSection) (functions : List ListedFunction) → HaveLinkableNames functions
+    → All (λ s. IsName s.name) (section_symbols 1 sections ++ named_symbols functions)
+symbols_named sections functions names =
+    All-from_recursion IsNamedSymbol (section_symbols 1 sections ++ named_symbols functions) (all_sections 1 sections (named_symbols functions)
+    (all_used [] (map defined_symbol functions ++ map undefined_symbol (references functions)) tt
+    (all_append (map defined_symbol functions) (map undefined_symbol (references functions))
+    (all_defined functions (recursion_from_All (λ f. IsSymbolName f.name) functions names.defined))
+    (all_referred (references functions) (recursion_from_All (λ r. IsSymbolName r.name) (references functions) names.referred)))))
+
+-- ---- the object
+
+module _ (P : Section → Type 0) (own : (s : LinkableSection) → IsPlain s → P (content_section s))
+    (relocated : (table k : ℕ) (s : LinkableSection) → IsPlain s → AllByRecursion P (relocation_section_if table k s.name s.content.relocations)) where
+  contents_are : (sections : List LinkableSection) → AllByRecursion IsPlain sections → (more : List Section) → AllByRecursion P more
+      → AllByRecursion P (map content_section sections ++ more)
+  contents_are [] all more others = others
+  contents_are (s ∷ sections) all more others = (own s all.0, contents_are sections all.1 more others)
+
+  joined : (ss more : List Section) → AllByRecursion P ss → AllByRecursion P more → AllByRecursion P (ss ++ more)
+  joined [] more all others = others
+  joined (s ∷ ss) more all others = (all.0, joined ss more all.1 others)
+
+  relocations_are : (table k : ℕ) (sections : List LinkableSection) → AllByRecursion IsPlain sections → AllByRecursion P (relocation_sections table k sections)
+  relocations_are table k [] all = tt
+  relocations_are table k (s ∷ sections) all =
+      joined (relocation_section_if table k s.name s.content.relocations) (relocation_sections table (suc k) sections) (relocated table k s all.0)
+      (relocations_are table (suc k) sections all.1)
+
+  all_are : (flags : ℕ) (sections : List LinkableSection) (symbols : List Symbol) → All IsPlain sections
+      → AllByRecursion P (stack_section ∷ symbol_section (suc (table_index sections)) symbols ∷ name_section symbols ∷ [])
+      → All P (object_of flags sections symbols).sections
+  all_are flags sections symbols all last =
+      let each = recursion_from_All IsPlain sections all in
+      let relocations : List Section = relocation_sections (table_index sections) 1 sections in
+      let end : List Section = stack_section ∷ symbol_section (suc (table_index sections)) symbols ∷ name_section symbols ∷ [] in
+      All-from_recursion P ((map content_section sections ++ relocations) ++ end)
+      (joined (map content_section sections ++ relocations) end
+      (contents_are sections each relocations (relocations_are (table_index sections) 1 sections each)) last)
+
+joined_name : (front name : List ℕ) → AllByRecursion (λ (byte : ℕ). 0 < byte) front → AllByRecursion (λ (byte : ℕ). 0 < byte) name
+    → AllByRecursion (λ (byte : ℕ). 0 < byte) (front ++ name)
+joined_name [] name front_is is = is
+joined_name (byte ∷ front) name front_is is = (front_is.0, joined_name front name front_is.1 is)
+
+relocated_named : (table k : ℕ) (s : LinkableSection) → IsPlain s → AllByRecursion IsNamed (relocation_section_if table k s.name s.content.relocations)
+relocated_named table k s is = by s.content.relocations
+  where
+    by : (rs : List Relocation) → AllByRecursion IsNamed (relocation_section_if table k s.name rs)
+    by [] = tt
+    by (r ∷ rs) = (
+      All-from_recursion (λ (byte : ℕ). 0 < byte) (codes ".rela" ++ s.name) (joined_name (codes ".rela") s.name
+          (recursion_from_All (λ (byte : ℕ). 0 < byte) (codes ".rela") (string (codes ".rela") refl))
+          (recursion_from_All (λ (byte : ℕ). 0 < byte) s.name is.name)),
+      tt,
+    )
+
+relocated_aligned : (table k : ℕ) (s : LinkableSection) → IsPlain s → AllByRecursion IsAligned (relocation_section_if table k s.name s.content.relocations)
+relocated_aligned table k s is = by s.content.relocations
+  where
+    by : (rs : List Relocation) → AllByRecursion IsAligned (relocation_section_if table k s.name rs)
+    by [] = tt
+    by (r ∷ rs) = (refl, tt)
+
+pub all_named : (flags : ℕ) (sections : List LinkableSection) (symbols : List Symbol) → All IsPlain sections
+    → All IsNamed (object_of flags sections symbols).sections
+all_named flags sections symbols all =
+    all_are IsNamed (λ s is. is.name) relocated_named flags sections symbols all
+    (string (codes ".note.GNU-stack") refl, (string (codes ".symtab") refl, (string (codes ".strtab") refl, tt)))
+
+pub all_aligned : (flags : ℕ) (sections : List LinkableSection) (symbols : List Symbol) → All IsPlain sections
+    → All IsAligned (object_of flags sections symbols).sections
+all_aligned flags sections symbols all =
+    all_are IsAligned (λ s is. is.alignment) relocated_aligned flags sections symbols all (refl, (refl, (refl, tt)))
+
+one_few : (table k : ℕ) (name : List ℕ) (rs : List Relocation) → length (relocation_section_if table k name rs) ≤ 1
+one_few table k name [] = omega arith
+one_few table k name (r ∷ rs) = omega arith
+
+relocations_few : (table k : ℕ) (sections : List LinkableSection) → length (relocation_sections table k sections) ≤ length sections
+relocations_few table k [] = omega arith
+relocations_few table k (s ∷ sections) =
+    let one : List Section = relocation_section_if table k s.name s.content.relocations in
+    omega (
+      arith,
+      length-append one (relocation_sections table (suc k) sections),
+      one_few table k s.name s.content.relocations,
+      relocations_few table (suc k) sections,
+    )
+
+pub object_few : (flags : ℕ) (sections : List LinkableSection) (symbols : List Symbol) → AreFew sections
+    → length (object_of flags sections symbols).sections + 2 < 0xff00
+object_few flags sections symbols are =
+    let contents : List Section = map content_section sections in
+    let relocations : List Section = relocation_sections (table_index sections) 1 sections in
+    let end : List Section = stack_section ∷ symbol_section (suc (table_index sections)) symbols ∷ name_section symbols ∷ [] in
+    omega (
+      arith,
+      are,
+      length-append (contents ++ relocations) end,
+      length-append contents relocations,
+      length-map sections content_section,
+      relocations_few (table_index sections) 1 sections,
+    )
+
+-- ---- objects that are too large
+
+pub many_symbols : (flags : ℕ) (sections : List LinkableSection) (symbols : List Symbol) → 2 ^ 27 ≤ length symbols
+    → 2 ^ 31 ≤ length (spelling (object_of flags sections symbols))
+many_symbols flags sections symbols many =
+    let front : List Section = map content_section sections ++ relocation_sections (table_index sections) 1 sections in
+    let table : Section = symbol_section (suc (table_index sections)) symbols in
+    through (2 ^ 31) (length (symbol_table symbols)) (length (spelling (object_of flags sections symbols)))
+    (large (length symbols) (length (symbol_table symbols)) many (length-table symbols))
+    (within_file (object_of flags sections symbols) (front ++ stack_section ∷ []) table (name_section symbols ∷ [])
+    (sym (append_assoc front (stack_section ∷ []) (table ∷ name_section symbols ∷ []))))
+  where
+    large : (n table : ℕ) → 2 ^ 27 ≤ n → table ≡ 24 + 24 * n → 2 ^ 31 ≤ table
+    large n table many is = omega (arith, many, is)
+
+pub long_names : (flags : ℕ) (sections : List LinkableSection) (symbols : List Symbol) → 2 ^ 31 ≤ length (symbol_names symbols)
+    → 2 ^ 31 ≤ length (spelling (object_of flags sections symbols))
+long_names flags sections symbols long =
+    let front : List Section = map content_section sections ++ relocation_sections (table_index sections) 1 sections in
+    let table : Section = symbol_section (suc (table_index sections)) symbols in
+    through (2 ^ 31) (length (symbol_names symbols)) (length (spelling (object_of flags sections symbols))) long
+    (within_file (object_of flags sections symbols) (front ++ stack_section ∷ table ∷ []) (name_section symbols) []
+    (sym (append_assoc front (stack_section ∷ table ∷ []) (name_section symbols ∷ []))))
+
+pub many_named : (flags : ℕ) (sections : List LinkableSection) (named : List Symbol) → 2 ^ 27 ≤ length named
+    → 2 ^ 31 ≤ length (spelling (object_of flags sections (section_symbols 1 sections ++ named)))
+many_named flags sections named many =
+    many_symbols flags sections (section_symbols 1 sections ++ named) (omega (arith, many, length-append (section_symbols 1 sections) named))
+
+-- ---- what was written
+
+pub is_linkable : (flags : ℕ) (o : Output) (lists : List ℕ) (t : DebugTables) (sections : List LinkableSection) (symbols : List Symbol)
+    (r : Result (List ℕ) ObjectError) → HaveLinkableNames o.functions → sections ≡ sections_of o lists t → symbols ≡ symbols_of o lists t
+    → IfOk r (IsLinkableFile flags sections symbols) → IfOk r (IsLinkableObject flags o lists t)
+is_linkable flags o lists t sections symbols (Ok bytes) names first second is = record {
+  names = names;
+  file = subst (λ (ss : List Symbol). IsLinkableFile flags (sections_of o lists t) ss bytes) second
+      (subst (λ (ss : List LinkableSection). IsLinkableFile flags ss symbols bytes) first is);
+}
+is_linkable flags o lists t sections symbols (Err e) names first second is = tt
+
+pub is_large : (flags : ℕ) (o : Output) (lists : List ℕ) (t : DebugTables) (sections : List LinkableSection) (symbols : List Symbol)
+    → HaveLinkableNames o.functions → sections ≡ sections_of o lists t → symbols ≡ symbols_of o lists t
+    → 2 ^ 31 ≤ length (spelling (object_of flags sections symbols)) → HasLargeLinkable flags o lists t
+is_large flags o lists t sections symbols names first second large = record {
+  names = names;
+  large = subst (λ (ss : List Symbol). 2 ^ 31 ≤ length (spelling (object_of flags (sections_of o lists t) ss))) second
+      (subst (λ (ss : List LinkableSection). 2 ^ 31 ≤ length (spelling (object_of flags ss symbols))) first large);
+}
+
+pub none_of : (size : Option ℕ) → is_some size ≡ false → IsNone size
+none_of None e = refl
+none_of (Some n) e = absurd (true≢false e)
+
+-- an object has few sections, so its file is too large
+pub file_large : (flags : ℕ) (sections : List LinkableSection) (symbols : List Symbol) (object : Object) → object ≡ object_of flags sections symbols
+    → AreFew sections → (2 ^ 31 ≤ length (spelling object)) ⊎ (0xff00 ≤ length object.sections + 2)
+    → 2 ^ 31 ≤ length (spelling (object_of flags sections symbols))
+file_large flags sections symbols object same are (inl large) = subst (λ (x : Object). 2 ^ 31 ≤ length (spelling x)) same large
+file_large flags sections symbols object same are (inr many) =
+    let few : length (object_of flags sections symbols).sections + 2 < 0xff00 = object_few flags sections symbols are in
+    let long : length object.sections ≡ length (object_of flags sections symbols).sections = ap (λ (x : Object). length x.sections) same in
+    let none : ⊥ = omega (arith, many, few, long) in absurd none
+
+-- the file that was written
+pub is_file : (flags : ℕ) (sections : List LinkableSection) (symbols : List Symbol) (object : Object) (bytes : List ℕ)
+    → object ≡ object_of flags sections symbols → IsObject object bytes → All (λ s. All FitsRelocation s.content.relocations) sections → All FitsSymbol symbols → LocalsFirst symbols
+    → length (symbol_names symbols) < 2 ^ 32 → IsLinkableFile flags sections symbols bytes
+is_file flags sections symbols object bytes same is relocations fits first long = record {
+  object = subst (λ (x : Object). IsObject x bytes) same is;
+  relocations = relocations;
+  symbols_are = record { table = refl; names = refl; fits = fits; locals = first; long = long };
+}

@@ -1,0 +1,4 @@
+pub mod References
+pub mod Symbols
+pub mod Linkable
+pub mod steps

@@ -1,0 +1,20 @@
+//! What the debug sections of an object have.
+
+use base_list::List;
+use dwarf_frame::table::FrameDescription;
+use dwarf_info::unit::Unit;
+use dwarf_line::table::LineTable;
+
+/// The call frame information of functions, in their order.
+pub type FrameDescriptions = List<FrameDescription>;
+
+/// The contents of debug sections.
+#[derive(Debug, Drop)]
+pub struct DebugTables {
+    /// The entries of `.debug_info`.
+    pub unit: Unit,
+    /// The rows of `.debug_line`.
+    pub rows: LineTable,
+    /// The functions of `.debug_frame`, if it is asked for.
+    pub frames: Option<FrameDescriptions>,
+}

@@ -1,0 +1,5 @@
+//! The object that a linker places of a program that was compiled.
+#![tactic(auto)]
+
+pub mod program;
+mod tables;
