@@ -1,17 +1,13 @@
 //! What goes to a callee by its name or by a register, and what it reads and sets.
 
-use crate::linked::Part::*;
-use crate::linked::{ADDI, CALL_BY, LD, Part, SD, made};
+use crate::parts::Part::*;
+use crate::parts::{ADDI, CALL_BY, GONE_BY, LD, Part, SD, TAIL_BY, made};
 use base_ids::function_ids::SlotId;
 use rv64_instr::decoded::{Callee, Decoded, Way};
 use rv64_instr::op::Op;
 use rv64_instr::place::Place;
 use rv64_instr::reg::physical;
 use std::alloc::Global;
-
-const TAIL_BY: Op = Op::PseudoTailIndirect;
-
-const GONE_BY: Op = Op::NoReturnCallIndirect;
 
 /// An opcode, its operands, and the register that it reads or else sets, whether it reads it, whether it sets it, and
 /// whether it has two words for a function of a name. A callee in a register is read.
@@ -22,14 +18,15 @@ const USES: &[(Op, &[Part], u32, bool, bool, bool)] = &[
     (LD, &[Def(10), Use(11), Lower(0)], 11, true, false, false),
     (SD, &[Use(10), Use(11), Lower(0)], 10, true, false, false),
     (SD, &[Use(10), Use(11), Lower(0)], 11, true, false, false),
-    (CALL_BY, &[Takes(8), Mask], 8, true, false, false),
-    (CALL_BY, &[Takes(11), Mask], 11, true, true, false),
+    (CALL_BY, &[Use(8), Mask], 8, true, false, false),
+    (CALL_BY, &[Use(11), Mask], 11, true, true, false),
+    (CALL_BY, &[Use(11), Mask, Takes(8)], 8, true, false, false),
     (Op::PseudoCall, &[Called, Mask], 10, false, true, true),
     (Op::PseudoTail, &[Called, Takes(10)], 10, true, false, true),
     (TAIL_BY, &[Takes(6), Takes(10)], 6, true, false, false),
     (Op::NoReturnCall, &[Called, Mask], 10, false, false, true),
     (GONE_BY, &[Takes(11), Mask], 11, true, false, false),
-    (CALL_BY, &[Takes(1), Mask], 1, true, true, false),
+    (CALL_BY, &[Use(1), Mask], 1, true, true, false),
     (
         GONE_BY,
         &[Takes(0), Mask, Takes(12)],
@@ -43,8 +40,8 @@ const USES: &[(Op, &[Part], u32, bool, bool, bool)] = &[
 
 /// Whether an instruction reads a register, sets it, and has two words for a function of a name.
 fn uses(alloc: Global, op: Op, parts: &[Part], register: u32) -> Option<(bool, bool, bool)> {
-    let i = made(alloc, op, parts)?;
     let place = Place::Register(physical(register)?);
+    let i = made(alloc, op, parts)?;
     Some((i.uses(place), i.defines(place), i.decoded().has_site()))
 }
 
@@ -82,7 +79,7 @@ const PASSES: &[(Op, &[Part], bool, bool, bool)] = &[
     ),
     (
         CALL_BY,
-        &[Takes(11), Mask, Passes(0), Passes(1)],
+        &[Use(11), Mask, Passes(0), Passes(1)],
         true,
         true,
         true,
@@ -135,7 +132,7 @@ fn slots_that_calls_pass(rt: HostRuntime) {
 /// Whether a call by a register, and what leaves by it, go to the code at its address.
 fn goes_by(alloc: Global) -> Option<bool> {
     let held = Callee::Held(physical(11)?);
-    let call = made(alloc, CALL_BY, &[Takes(11), Mask])?.decoded();
+    let call = made(alloc, CALL_BY, &[Use(11), Mask])?.decoded();
     let tail = made(alloc, TAIL_BY, &[Takes(11)])?.decoded();
     let gone = made(alloc, GONE_BY, &[Takes(11), Mask])?.decoded();
     Some(

@@ -3,6 +3,7 @@
 use cli::fault::Fault;
 use cli::status::Status;
 use cli_numbers::text::reserve_list;
+use rv64_instr::reg::Reg;
 use std::alloc::Global;
 
 /// Whether a fault is told with this line and name, and a run with it ends with this status, of this number.
@@ -13,17 +14,22 @@ fn is_told(fault: Fault, line: Option<u32>, name: &str, status: Status, number: 
         && status.number() == number
 }
 
-/// Whether the registers of a reserve are these, in their order.
-fn is_reserve(alloc: Global, text: &str, numbers: &[u32]) -> bool {
-    let Ok(Some(registers)) = reserve_list(alloc, text) else {
-        return false;
-    };
-    for (register, number) in registers.as_slice().iter().zip(numbers) {
+/// Whether registers have these numbers, in their order.
+fn are_numbered(registers: &[Reg], numbers: &[u32]) -> bool {
+    for (register, number) in registers.iter().zip(numbers) {
         if register.number() != *number {
             return false;
         }
     }
     registers.len() == numbers.len()
+}
+
+/// Whether the registers of a reserve are these, in their order.
+fn is_reserve(alloc: Global, text: &str, numbers: &[u32]) -> bool {
+    match reserve_list(alloc, text) {
+        Ok(Some(registers)) => are_numbered(registers.as_slice(), numbers),
+        _ => false,
+    }
 }
 
 #[test]

@@ -1,8 +1,9 @@
 //! Arithmetic, names, effects and encodings of instructions, compared with values worked out by hand and with an
 //! assembler's.
 
-use base_ids::function_ids::{BlockId, ObjectId, SlotId};
-use base_list::List;
+use crate::parts::Part::*;
+use crate::parts::{ADDI, BEQ, CALL_BY, GONE_BY, LD, Part, SD, TAIL_BY, made, other_form};
+use base_ids::function_ids::ObjectId;
 use rv64_instr::arithmetic::{compute, extend, is_taken};
 use rv64_instr::instr::Instr;
 use rv64_instr::op::BranchOp::*;
@@ -11,7 +12,6 @@ use rv64_instr::op::LoadOp::*;
 use rv64_instr::op::RegisterOp::*;
 use rv64_instr::op::StoreOp::*;
 use rv64_instr::op::{Op, RegisterOp};
-use rv64_instr::operand::{Operand, Operands};
 use rv64_instr::place::Place;
 use rv64_instr::reg::physical;
 use rv64_word::lowering::{lower, object_named};
@@ -74,49 +74,6 @@ fn arithmetic_of_the_standard(rt: HostRuntime) {
     assert_eq!(rt; other_name(NAMES), None);
 }
 
-/// An operand by its number, or a call's.
-enum Part {
-    Def(u32),
-    Use(u32),
-    Takes(u32),
-    Sets(u32),
-    Imm(i64),
-    Slot(u32),
-    Object(u32),
-    Block(u32),
-    Symbol,
-    Mask,
-}
-
-use Part::*;
-
-fn operand(alloc: Global, part: &Part) -> Option<Operand> {
-    match part {
-        Def(n) => Some(Operand::Def(physical(*n)?)),
-        Use(n) => Some(Operand::Use(physical(*n)?)),
-        Takes(n) => Some(Operand::ImplicitUse(physical(*n)?)),
-        Sets(n) => Some(Operand::ImplicitDef(physical(*n)?)),
-        Imm(i) => Some(Operand::Imm(*i)),
-        Slot(n) => Some(Operand::Slot(SlotId(*n))),
-        Object(n) => Some(Operand::Object(ObjectId(*n))),
-        Block(n) => Some(Operand::Block(BlockId(*n))),
-        Symbol => Some(Operand::Symbol(List::new(alloc))),
-        Mask => Some(Operand::Mask),
-    }
-}
-
-fn operands(alloc: Global, parts: &[Part]) -> Option<Operands> {
-    let mut operands = Operands::new(alloc);
-    for part in parts {
-        operands.push(operand(alloc, part)?).ok()?;
-    }
-    Some(operands)
-}
-
-fn made(alloc: Global, op: Op, parts: &[Part]) -> Option<Instr> {
-    Instr::new(op, operands(alloc, parts)?)
-}
-
 fn object_in(parts: &[Part]) -> Option<ObjectId> {
     for part in parts {
         if let Object(n) = part {
@@ -128,31 +85,17 @@ fn object_in(parts: &[Part]) -> Option<ObjectId> {
 
 const ADD: Op = Op::Registers(Add);
 
-const ADDI: Op = Op::Immediate(Addi);
-
 const SRAI: Op = Op::Immediate(Srai);
 
 const LW: Op = Op::Load(Lw);
 
-const LD: Op = Op::Load(Ld);
-
 const SB: Op = Op::Store(Sb);
-
-const SD: Op = Op::Store(Sd);
-
-const BEQ: Op = Op::Branch(Beq);
 
 const BGEU: Op = Op::Branch(Bgeu);
 
 const LBU: Op = Op::Load(Lbu);
 
 const SH: Op = Op::Store(Sh);
-
-const CALL_BY: Op = Op::PseudoCallIndirect;
-
-const TAIL_BY: Op = Op::PseudoTailIndirect;
-
-const GONE_BY: Op = Op::NoReturnCallIndirect;
 
 /// An opcode, its operands, the target's offset, the stack object's offset, and the word that `llvm-mc` of LLVM 14
 /// writes for the instruction, or 0 where an offset is out of range, and for what goes to a function of a name, which
@@ -187,12 +130,12 @@ const ROWS: &[(Op, &[Part], i64, u32, u32)] = &[
     (LD, &[Def(11), Slot(5), Imm(0)], 0, 0, 0x00513583),
     (SH, &[Use(11), Object(6), Imm(8)], 0, 0, 0x00b11423),
     (BEQ, &[Use(11), Use(0), Block(7)], 0, 0, 0x00058063),
-    (Op::PseudoCall, &[Symbol, Mask], 0, 0, 0),
-    (CALL_BY, &[Takes(11), Mask], 0, 0, 0x000580e7),
-    (Op::PseudoTail, &[Symbol], 0, 0, 0),
+    (Op::PseudoCall, &[Called, Mask], 0, 0, 0),
+    (CALL_BY, &[Use(11), Mask], 0, 0, 0x000580e7),
+    (Op::PseudoTail, &[Called], 0, 0, 0),
     (TAIL_BY, &[Takes(6), Takes(10)], 0, 0, 0x00030067),
     (TAIL_BY, &[Takes(31)], 3, 3, 0x000f8067),
-    (Op::NoReturnCall, &[Symbol, Mask], 0, 0, 0),
+    (Op::NoReturnCall, &[Called, Mask], 0, 0, 0),
     (GONE_BY, &[Takes(11), Mask], 0, 0, 0x000580e7),
 ];
 
@@ -227,43 +170,38 @@ fn words_of_instructions(rt: HostRuntime) {
     assert_eq!(rt; other_word(rt.alloc(), ROWS), None);
 }
 
-/// An opcode, operands, and whether they have its form. The callee of a call in tail position is in a register that the
-/// epilogue leaves alone, and so is what it passes; x2 is no callee. A call that doesn't return passes registers alone.
+/// An opcode, operands, and whether they have its form. A call that returns has its callee in an explicit operand, and
+/// what leaves for one in an implicit operand. The callee of a call in tail position is in a register that the epilogue
+/// leaves alone, and so is what it passes. A call that doesn't return passes registers alone, and x2 isn't its callee.
 const FORMS: &[(Op, &[Part], bool)] = &[
-    (CALL_BY, &[Takes(8), Mask, Takes(9)], true),
-    (CALL_BY, &[Takes(2), Mask], false),
-    (CALL_BY, &[Takes(1), Mask], true),
-    (CALL_BY, &[Takes(0), Mask, Takes(2)], true),
-    (CALL_BY, &[Takes(8)], false),
-    (CALL_BY, &[Symbol, Mask], false),
-    (Op::PseudoTail, &[Symbol, Takes(2), Takes(17)], true),
-    (Op::PseudoTail, &[Symbol, Takes(6)], false),
-    (Op::PseudoTail, &[Symbol, Mask], false),
+    (CALL_BY, &[Use(8), Mask, Takes(9)], true),
+    (CALL_BY, &[Takes(8), Mask], false),
+    (CALL_BY, &[Use(1), Mask], true),
+    (CALL_BY, &[Use(0), Mask, Takes(2)], true),
+    (CALL_BY, &[Use(8)], false),
+    (CALL_BY, &[Use(8), Mask, Use(9)], false),
+    (CALL_BY, &[Called, Mask], false),
+    (Op::PseudoTail, &[Called, Takes(2), Takes(17)], true),
+    (Op::PseudoTail, &[Called, Takes(6)], false),
+    (Op::PseudoTail, &[Called, Mask], false),
     (TAIL_BY, &[Takes(6), Takes(2)], true),
     (TAIL_BY, &[Takes(10), Takes(6)], true),
     (TAIL_BY, &[Takes(10), Takes(5)], false),
     (TAIL_BY, &[Takes(8), Takes(2)], false),
     (TAIL_BY, &[Takes(1)], false),
-    (Op::NoReturnCall, &[Symbol, Mask, Takes(10)], true),
-    (Op::NoReturnCall, &[Symbol, Mask, Sets(1), Takes(8)], true),
-    (Op::NoReturnCall, &[Symbol, Mask, Sets(8)], false),
-    (Op::NoReturnCall, &[Symbol, Takes(10)], false),
+    (TAIL_BY, &[Use(6)], false),
+    (Op::NoReturnCall, &[Called, Mask, Takes(10)], true),
+    (Op::NoReturnCall, &[Called, Mask, Sets(1), Takes(8)], true),
+    (Op::NoReturnCall, &[Called, Mask, Sets(8)], false),
+    (Op::NoReturnCall, &[Called, Takes(10)], false),
     (GONE_BY, &[Takes(8), Mask, Takes(9)], true),
     (GONE_BY, &[Takes(10), Takes(11)], false),
+    (GONE_BY, &[Takes(2), Mask], false),
+    (GONE_BY, &[Use(8), Mask], false),
 ];
 
-/// The number of the first row whose operands fit where they shouldn't, or don't where they should.
-fn other_form(alloc: Global, rows: &[(Op, &[Part], bool)]) -> Option<usize> {
-    for (row, (op, parts, fits)) in rows.iter().enumerate() {
-        if made(alloc, *op, parts).is_some() != *fits {
-            return Some(row);
-        }
-    }
-    None
-}
-
 /// A call with an argument in x10.
-const CALL: &[Part] = &[Symbol, Mask, Takes(10)];
+const CALL: &[Part] = &[Called, Mask, Takes(10)];
 
 /// Whether an instruction is that call.
 fn is_call(call: &Instr) -> bool {
@@ -276,13 +214,27 @@ fn is_call(call: &Instr) -> bool {
         && !call.defines(Place::Register(x8))
 }
 
+/// Whether a copy of an instruction is that call.
+fn is_copied_as_call(i: &Instr) -> bool {
+    match i.copy() {
+        Ok(copied) => is_call(&copied),
+        Err(_) => false,
+    }
+}
+
+/// How many operands a copy of an instruction's operands has.
+fn copied_operands(i: &Instr) -> usize {
+    match i.operands.copy() {
+        Ok(copied) => copied.as_slice().len(),
+        Err(_) => 0,
+    }
+}
+
 /// How many operands a copy of the call has, where both are that call.
-fn copied_operands(alloc: Global) -> Option<usize> {
+fn operands_of_call(alloc: Global) -> Option<usize> {
     let call = made(alloc, Op::PseudoCall, CALL)?;
-    let copied = call.copy().ok()?;
-    let operands = call.operands.copy().ok()?;
-    if is_call(&call) && is_call(&copied) {
-        Some(operands.as_slice().len())
+    if is_call(&call) && is_copied_as_call(&call) {
+        Some(copied_operands(&call))
     } else {
         None
     }
@@ -291,5 +243,5 @@ fn copied_operands(alloc: Global) -> Option<usize> {
 #[test]
 fn forms_of_calls(rt: HostRuntime) {
     assert_eq!(rt; other_form(rt.alloc(), FORMS), None);
-    assert_eq!(rt; copied_operands(rt.alloc()), Some(3));
+    assert_eq!(rt; operands_of_call(rt.alloc()), Some(3));
 }

@@ -13,6 +13,8 @@ mod items;
 #[cfg(test)]
 mod linked;
 #[cfg(test)]
+mod parts;
+#[cfg(test)]
 mod streams;
 #[cfg(test)]
 mod words;

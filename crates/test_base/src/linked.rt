@@ -1,17 +1,16 @@
 //! Halves of the addresses of symbols: their values, the instructions that have them, and their words before and after
 //! the program is linked.
 
-use base_ids::function_ids::SlotId;
+use crate::parts::Part::*;
+use crate::parts::{ADDI, BEQ, CALL_BY, LD, Part, SD, made, other_form};
 use base_list::List;
 use rv64_instr::decoded::{Base, Decoded, Input};
 use rv64_instr::instr::Instr;
 use rv64_instr::linked::{half_immediate, linked_address, linked_value};
-use rv64_instr::op::BranchOp::*;
 use rv64_instr::op::ImmediateOp::*;
 use rv64_instr::op::LoadOp::*;
 use rv64_instr::op::StoreOp::*;
 use rv64_instr::op::{Op, RegisterOp};
-use rv64_instr::operand::{Operand, Operands};
 use rv64_instr::reg::physical;
 use rv64_instr::symbol::{Half, LinkedAddress, Symbol, SymbolAddresses, copy_addresses};
 use rv64_word::linked::linked_word;
@@ -26,22 +25,7 @@ enum Of {
     Pool(u32),
 }
 
-/// An operand by its number, the slot that a call passes among them; a half of the address of the global `g`, plus a
-/// number of bytes; or a call's.
-pub(crate) enum Part {
-    Def(u32),
-    Use(u32),
-    Takes(u32),
-    Imm(i64),
-    Upper(i32),
-    Lower(i32),
-    Passes(u32),
-    Called,
-    Mask,
-}
-
 use Of::*;
-use Part::*;
 
 fn symbol(alloc: Global, of: &Of) -> Option<Symbol> {
     match of {
@@ -55,28 +39,6 @@ fn address(alloc: Global, of: &Of, addend: i32) -> Option<LinkedAddress> {
         symbol: symbol(alloc, of)?,
         addend,
     })
-}
-
-fn operand(alloc: Global, part: &Part) -> Option<Operand> {
-    match part {
-        Def(n) => Some(Operand::Def(physical(*n)?)),
-        Use(n) => Some(Operand::Use(physical(*n)?)),
-        Takes(n) => Some(Operand::ImplicitUse(physical(*n)?)),
-        Imm(i) => Some(Operand::Imm(*i)),
-        Upper(addend) => { Some(Operand::Part(Half::Upper, address(alloc, &Name("g"), *addend)?)) }
-        Lower(addend) => { Some(Operand::Part(Half::Lower, address(alloc, &Name("g"), *addend)?)) }
-        Passes(n) => Some(Operand::Outgoing(SlotId(*n))),
-        Called => Some(Operand::Symbol(List::from_slice(alloc, b"g").ok()?)),
-        Mask => Some(Operand::Mask),
-    }
-}
-
-pub(crate) fn made(alloc: Global, op: Op, parts: &[Part]) -> Option<Instr> {
-    let mut operands = Operands::new(alloc);
-    for part in parts {
-        operands.push(operand(alloc, part)?).ok()?;
-    }
-    Instr::new(op, operands)
 }
 
 /// Symbols with their addresses. The first of a symbol counts.
@@ -108,23 +70,51 @@ const ADDRESSES: &[(Of, i32, u64)] = &[
     (Pool(1), i32::MIN, 0xffff_ffff_952e_0000),
 ];
 
-/// Whether a symbol's address, and that of its copy among copied symbols, is this.
-fn is_at(alloc: Global, of: &Of, addend: i32, wanted: u64) -> Option<bool> {
-    let symbols = addresses(alloc, SYMBOLS)?;
-    let copied = copy_addresses(alloc, &symbols).ok()?;
-    let address = address(alloc, of, addend)?;
+/// Whether the copy of an address among copied symbols is this.
+fn is_copied_at(
+    alloc: Global,
+    symbols: &SymbolAddresses,
+    address: &LinkedAddress,
+    wanted: u64,
+) -> Option<bool> {
     let again = address.copy().ok()?;
-    Some(linked_address(&symbols, &address) == wanted && linked_address(&copied, &again) == wanted)
+    let copied = copy_addresses(alloc, symbols).ok()?;
+    Some(linked_address(&copied, &again) == wanted)
+}
+
+/// Whether a symbol's address, and that of its copy among copied symbols, is this.
+fn is_at(
+    alloc: Global,
+    symbols: &SymbolAddresses,
+    of: &Of,
+    addend: i32,
+    wanted: u64,
+) -> Option<bool> {
+    let address = address(alloc, of, addend)?;
+    let again = is_copied_at(alloc, symbols, &address, wanted)?;
+    Some(again && linked_address(symbols, &address) == wanted)
 }
 
 /// The number of the first row whose symbol is elsewhere.
-fn other_address(alloc: Global, rows: &[(Of, i32, u64)]) -> Option<usize> {
+fn other_address_among(
+    alloc: Global,
+    symbols: &SymbolAddresses,
+    rows: &[(Of, i32, u64)],
+) -> Option<usize> {
     for (row, (of, addend, wanted)) in rows.iter().enumerate() {
-        if is_at(alloc, of, *addend, *wanted) != Some(true) {
+        if is_at(alloc, symbols, of, *addend, *wanted) != Some(true) {
             return Some(row);
         }
     }
     None
+}
+
+/// The same among the symbols above.
+fn other_address(alloc: Global, rows: &[(Of, i32, u64)]) -> Option<usize> {
+    match addresses(alloc, SYMBOLS) {
+        Some(symbols) => other_address_among(alloc, &symbols, rows),
+        None => Some(rows.len()),
+    }
 }
 
 /// An address, the immediate and the value of its upper half, and those of its lower half.
@@ -146,7 +136,10 @@ const HALVES: &[(u64, i64, u64, i64)] = &[
 fn are_halves(alloc: Global, row: &(u64, i64, u64, i64)) -> Option<bool> {
     let (at, upper, value, lower) = *row;
     let symbols = addresses(alloc, &[(Pool(3), at)])?;
-    let address = address(alloc, &Pool(3), 0)?;
+    let address = LinkedAddress {
+        symbol: Symbol::Constant(3),
+        addend: 0,
+    };
     Some(
         half_immediate(Half::Upper, at) == upper
             && half_immediate(Half::Lower, at) == lower
@@ -171,16 +164,6 @@ fn halves_of_addresses(rt: HostRuntime) {
     assert_eq!(rt; other_halves(rt.alloc(), HALVES), None);
 }
 
-pub(crate) const ADDI: Op = Op::Immediate(Addi);
-
-pub(crate) const LD: Op = Op::Load(Ld);
-
-pub(crate) const SD: Op = Op::Store(Sd);
-
-const BEQ: Op = Op::Branch(Beq);
-
-pub(crate) const CALL_BY: Op = Op::PseudoCallIndirect;
-
 /// An opcode, operands, and whether they have its form: a half stands in the place of an immediate of its width.
 const FORMS: &[(Op, &[Part], bool)] = &[
     (Op::Lui, &[Def(10), Upper(i32::MIN)], true),
@@ -201,16 +184,6 @@ const FORMS: &[(Op, &[Part], bool)] = &[
     (Op::PseudoCall, &[Upper(0), Mask], false),
     (Op::PseudoRet, &[Lower(0)], false),
 ];
-
-/// The number of the first row that has the form where it shouldn't, or hasn't where it should.
-fn other_form(alloc: Global, rows: &[(Op, &[Part], bool)]) -> Option<usize> {
-    for (row, (op, parts, fits)) in rows.iter().enumerate() {
-        if made(alloc, *op, parts).is_some() != *fits {
-            return Some(row);
-        }
-    }
-    None
-}
 
 /// An opcode, its operands, its word in an object, and its words where `g` is at 0x12345fff and at 0x123467a3: those of
 /// `llvm-mc` and `ld.lld` of LLVM 19. An instruction without a half has one word.
@@ -315,7 +288,7 @@ const WORDS: &[(Op, &[Part], u32, u32, u32)] = &[
     ),
     (
         CALL_BY,
-        &[Takes(11), Mask],
+        &[Use(11), Mask],
         0x000580e7,
         0x000580e7,
         0x000580e7,
@@ -329,12 +302,17 @@ fn word_at(alloc: Global, i: &Instr, word: u32, at: u64) -> Option<u32> {
 }
 
 /// The words of an instruction.
-fn words(alloc: Global, op: Op, parts: &[Part]) -> Option<(u32, u32, u32)> {
-    let i = made(alloc, op, parts)?.copy().ok()?;
-    let word = encode(&lower(&i, 0, 0)?);
-    let first = word_at(alloc, &i, word, 0x1234_5fff)?;
-    let second = word_at(alloc, &i, word, 0x1234_67a3)?;
+fn words_of(alloc: Global, i: &Instr) -> Option<(u32, u32, u32)> {
+    let word = encode(&lower(i, 0, 0)?);
+    let first = word_at(alloc, i, word, 0x1234_5fff)?;
+    let second = word_at(alloc, i, word, 0x1234_67a3)?;
     Some((word, first, second))
+}
+
+/// The words of a row's instruction.
+fn words(alloc: Global, op: Op, parts: &[Part]) -> Option<(u32, u32, u32)> {
+    let i = made(alloc, op, parts)?;
+    words_of(alloc, &i)
 }
 
 /// The number of the first row with other words.
@@ -353,11 +331,18 @@ fn words_with_halves(rt: HostRuntime) {
     assert_eq!(rt; other_words(rt.alloc(), WORDS), None);
 }
 
-/// Whether an instruction does this, with this half of `g` plus 5.
+/// Whether an instruction does this, with this half of a symbol plus 5.
+fn does_with_half(i: &Instr, does: &Decoded, half: Half) -> bool {
+    let Some(address) = i.linked_address() else {
+        return false;
+    };
+    i.decoded() == *does && i.linked_half() == Some(half) && address.addend == 5
+}
+
+/// Whether a row's instruction does this, with this half of `g` plus 5.
 fn has_half(alloc: Global, op: Op, parts: &[Part], does: &Decoded, half: Half) -> Option<bool> {
     let i = made(alloc, op, parts)?;
-    let addend = i.linked_address()?.addend;
-    Some(i.decoded() == *does && i.linked_half() == Some(half) && addend == 5)
+    Some(does_with_half(&i, does, half))
 }
 
 /// Whether what computes has a half as its input.

@@ -93,12 +93,22 @@ fn other_write(output: &mut MemorySink, rows: &[WriteRow]) -> Option<usize> {
     None
 }
 
+/// The number of the first call of a source over `hello` that gives something else.
+fn other_piece(alloc: Global) -> Result<Option<usize>, AllocError> {
+    let mut input = source(alloc, b"hello", &[2, 4])?;
+    Ok(other_read(&mut input, READS))
+}
+
+/// The number of the first call of a sink that gives something else.
+fn other_fault(alloc: Global) -> Result<Option<usize>, AllocError> {
+    let mut output = sink(alloc, 4, &[2])?;
+    Ok(other_write(&mut output, WRITES))
+}
+
 #[test]
 fn pieces_and_planned_faults(rt: HostRuntime) -> Result<(), Fail> {
-    let mut input = source(rt.alloc(), b"hello", &[2, 4])?;
-    assert_eq!(rt; other_read(&mut input, READS), None);
-    let mut output = sink(rt.alloc(), 4, &[2])?;
-    assert_eq!(rt; other_write(&mut output, WRITES), None);
+    assert_eq!(rt; other_piece(rt.alloc())?, None);
+    assert_eq!(rt; other_fault(rt.alloc())?, None);
     Ok(())
 }
 
@@ -175,20 +185,27 @@ fn is_taken(
     found == answer && drip.taken.as_slice() == taken
 }
 
-#[test]
-fn the_standard_library_passes_bytes_and_faults_on(rt: HostRuntime) {
-    let alloc = rt.alloc();
-    // The third read fails, or none does.
-    assert!(rt; matches!(read_with_fault(alloc, 2), Err(ReadError::Failed)));
+/// Whether all bytes of a countdown are read where no call fails, and none is where its third call does.
+fn counts_down(alloc: Global) -> bool {
+    let fails = matches!(read_with_fault(alloc, 2), Err(ReadError::Failed));
     match read_with_fault(alloc, 9) {
-        Ok(read) => assert!(rt; read.as_slice() == [3, 2, 1].as_slice()),
-        Err(_) => assert!(rt; false),
+        Ok(read) => fails && read.as_slice() == [3, 2, 1].as_slice(),
+        Err(_) => false,
     }
-    assert!(rt; is_taken(alloc, 5, true, Ok(()), b"hello"));
-    assert!(rt; is_taken(alloc, 3, true, Err(Failed), b"hel"));
-    assert!(rt; is_taken(alloc, 3, false, Err(Failed), b"hel"));
+}
+
+/// Whether `hello` is written to a vector.
+fn is_appended(alloc: Global) -> bool {
     let mut bytes = Vec::new(alloc);
     let written = write_all(&mut StdSink::new(&mut bytes), b"hello");
-    assert!(rt; written == Ok(()));
-    assert!(rt; bytes.as_slice() == b"hello".as_slice());
+    written == Ok(()) && bytes.as_slice() == b"hello".as_slice()
+}
+
+#[test]
+fn the_standard_library_passes_bytes_and_faults_on(rt: HostRuntime) {
+    assert!(rt; counts_down(rt.alloc()));
+    assert!(rt; is_taken(rt.alloc(), 5, true, Ok(()), b"hello"));
+    assert!(rt; is_taken(rt.alloc(), 3, true, Err(Failed), b"hel"));
+    assert!(rt; is_taken(rt.alloc(), 3, false, Err(Failed), b"hel"));
+    assert!(rt; is_appended(rt.alloc()));
 }

@@ -116,24 +116,39 @@ fn place(words: &mut SplitWhitespace) -> Option<Place> {
     }
 }
 
-/// A variable after its word: `mark V`, `inlined V AT` or `part V OFFSET LENGTH`. None after another word.
-pub fn variable(first: &str, words: &mut SplitWhitespace) -> Option<VarId> {
-    if !matches!(first, "mark" | "inlined" | "part") {
-        return None;
-    }
-    let node = NodeId(number(words.next())?);
-    let mut v = VarId {
+/// The node of a word.
+fn node(word: Option<&str>) -> Option<NodeId> {
+    Some(NodeId(number(word)?))
+}
+
+/// A part of a variable.
+fn part(words: &mut SplitWhitespace) -> Option<VarId> {
+    let node = node(words.next())?;
+    let offset = number(words.next())?;
+    let length = number(words.next())?;
+    Some(VarId {
         node,
         inlined_at: None,
-        fragment: None,
-    };
-    if first == "inlined" {
-        v.inlined_at = Some(NodeId(number(words.next())?));
+        fragment: Fragment::new(offset, length),
+    })
+}
+
+/// A variable after its word: `mark V`, `inlined V AT` or `part V OFFSET LENGTH`. None after another word.
+pub fn variable(first: &str, words: &mut SplitWhitespace) -> Option<VarId> {
+    match first {
+        "mark" => Some(VarId {
+            node: node(words.next())?,
+            inlined_at: None,
+            fragment: None,
+        }),
+        "inlined" => Some(VarId {
+            node: node(words.next())?,
+            inlined_at: Some(node(words.next())?),
+            fragment: None,
+        }),
+        "part" => part(words),
+        _ => None,
     }
-    if first == "part" {
-        v.fragment = Fragment::new(number(words.next())?, number(words.next())?);
-    }
-    Some(v)
 }
 
 fn kind(alloc: Global, line: &str) -> Option<ItemKind> {
@@ -156,20 +171,36 @@ fn kind(alloc: Global, line: &str) -> Option<ItemKind> {
     }
 }
 
-/// The items of a block as it is read: each is kept at its own place.
-fn items(alloc: Global, id: BlockId, text: &str) -> Option<Items> {
-    let mut items: Items = List::new(alloc);
+/// The item of a line at its own place.
+fn item(alloc: Global, block: BlockId, item: u32, line: &str) -> Option<Item> {
+    Some(Item {
+        kind: kind(alloc, line)?,
+        origin: Origin::Kept(Pos { block, item }),
+        loc: Loc::Absent,
+    })
+}
+
+/// Adds the items of a block as it is read: each is kept at its own place.
+fn add_items(alloc: Global, id: BlockId, text: &str, items: &mut Items) -> Option<()> {
     for line in text.lines() {
-        if line.trim().is_empty() {
-            continue;
+        if !line.trim().is_empty() {
+            let at = u32::try_from(items.len()).ok()?;
+            items.push(item(alloc, id, at, line)?).ok()?;
         }
-        let item = u32::try_from(items.len()).ok()?;
-        let kind = kind(alloc, line)?;
-        let origin = Origin::Kept(Pos { block: id, item });
-        let loc = Loc::Absent;
-        items.push(Item { kind, origin, loc }).ok()?;
     }
-    Some(items)
+    Some(())
+}
+
+/// A block with this number and silent index, or its end where there is none.
+fn block(alloc: Global, id: BlockId, text: &str, source_end: Option<u32>) -> Option<Block> {
+    let mut items = Items::new(alloc);
+    add_items(alloc, id, text, &mut items)?;
+    let count = u32::try_from(items.len()).ok()?;
+    Some(Block {
+        id,
+        items,
+        source_end: source_end.unwrap_or(count),
+    })
 }
 
 /// Adds the blocks of a text, whose first line has their numbers.
@@ -180,16 +211,8 @@ fn add_blocks(alloc: Global, text: &str, blocks: &mut Blocks) -> Option<()> {
     let last = number(words.next()).unwrap_or(first);
     let source_end = number(words.next());
     for n in first..last.saturating_add(1) {
-        let id = BlockId(n);
-        let items = items(alloc, id, text)?;
-        let count = u32::try_from(items.len()).ok()?;
-        let source_end = source_end.unwrap_or(count);
         blocks
-            .push(Block {
-                id,
-                items,
-                source_end,
-            })
+            .push(block(alloc, BlockId(n), text, source_end)?)
             .ok()?;
     }
     Some(())
@@ -228,17 +251,29 @@ fn declare(line: &str, slots: &mut SlotIds, objects: &mut Objects) -> Option<()>
     }
 }
 
-/// The function of a text, or why there is none. None where the text has another form.
-pub fn function(alloc: Global, text: &str) -> Option<Result<Func, FuncError>> {
-    let mut slots = SlotIds::new(alloc);
-    let mut objects = Objects::new(alloc);
-    let mut blocks = Blocks::new(alloc);
-    let (front, rest) = text.split_once("bb ")?;
-    for line in front.lines() {
-        declare(line, &mut slots, &mut objects)?;
+/// Declares what lines say.
+fn declare_all(lines: &str, slots: &mut SlotIds, objects: &mut Objects) -> Option<()> {
+    for line in lines.lines() {
+        declare(line, slots, objects)?;
     }
-    for part in rest.split("bb ") {
+    Some(())
+}
+
+/// The blocks of a text from behind its first `bb`.
+fn blocks(alloc: Global, text: &str) -> Option<Blocks> {
+    let mut blocks = Blocks::new(alloc);
+    for part in text.split("bb ") {
         add_blocks(alloc, part, &mut blocks)?;
     }
+    Some(blocks)
+}
+
+/// The function of a text, or why there is none. None where the text has another form.
+pub fn function(alloc: Global, text: &str) -> Option<Result<Func, FuncError>> {
+    let (front, rest) = text.split_once("bb ")?;
+    let mut slots = SlotIds::new(alloc);
+    let mut objects = Objects::new(alloc);
+    declare_all(front, &mut slots, &mut objects)?;
+    let blocks = blocks(alloc, rest)?;
     Some(Func::new(alloc, List::new(alloc), slots, objects, blocks))
 }

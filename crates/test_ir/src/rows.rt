@@ -69,7 +69,7 @@ pub const ROWS: &[Row] = &[
     ),
     // what goes to a callee, and how its step ends
     (
-        "slots 0 1\nbb 0\nPseudoCALLIndirect takes:10 mask takes:11\nPseudoRET",
+        "slots 0 1\nbb 0\nPseudoCALLIndirect use:10 mask takes:11\nPseudoRET",
         4096,
         (0, 0),
         "waits 1 0 0\nanswer went 0 1",

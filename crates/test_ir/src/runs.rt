@@ -180,15 +180,28 @@ fn looks_on(
     Some(())
 }
 
-/// Runs a function of these declarations and blocks from where x10 holds a number, and looks. The answer writes a byte.
-fn sees(alloc: Global, text: &str, x10: u64, written: (u64, u8), looks: &str) -> Option<()> {
-    let f = function(alloc, text)?.ok()?;
-    if !SourceState::can_run(&f) {
+/// Runs a function from where x10 holds a number, and looks. The answer writes a byte.
+fn sees_of(
+    alloc: Global,
+    f: &Func,
+    subs: &Substitutions,
+    x10: u64,
+    written: (u64, u8),
+    looks: &str,
+) -> Option<()> {
+    if !SourceState::can_run(f) {
         return None;
     }
+    let start = start(alloc, x10)?;
+    let mut state = SourceState::new(alloc, f, &start).ok()?;
+    looks_on(&mut state, f, subs, &answer(written), looks)
+}
+
+/// The same of the function of these declarations and blocks.
+fn sees(alloc: Global, text: &str, x10: u64, written: (u64, u8), looks: &str) -> Option<()> {
+    let f = function(alloc, text)?.ok()?;
     let subs = entries(alloc, ENTRIES).ok()?;
-    let mut state = SourceState::new(alloc, &f, &start(alloc, x10)?).ok()?;
-    looks_on(&mut state, &f, &subs, &answer(written), looks)
+    sees_of(alloc, &f, &subs, x10, written, looks)
 }
 
 /// The number of the first row of which something else is seen.

@@ -154,7 +154,7 @@ pub const AMIDST: &[Row] = &[
             At(8),
             Code(
                 Op::PseudoCallIndirect,
-                &[Takes(8), Mask, Gives(1), Takes(10), Gives(10)],
+                &[Use(8), Mask, Gives(1), Takes(10), Gives(10)],
             ),
             Code(
                 Op::NoReturnCallIndirect,

@@ -17,6 +17,7 @@ use compile_function::compiled_function::{CompiledFunction, compile_function};
 use copyprop_pass::copies::CopyPass;
 use dwarf_loclists::range::{Location, Range, Ranges};
 use emit_code::code::Code;
+use mir_func::block::Block;
 use mir_func::func::Func;
 use mir_func::item::{Item, ItemKind};
 use mir_func::position::Origin;
@@ -108,9 +109,9 @@ fn symbols(alloc: Global) -> Result<SymbolAddresses, Fail> {
 /// The start of a run with arguments.
 fn start(alloc: Global, arguments: &[u64]) -> Result<Start, Fail> {
     let symbols = symbols(alloc)?;
-    let memory = Cells::from_slice(alloc, CELLS)?;
-    let begun = start_with(alloc, symbols, arguments);
-    Ok(Start { memory, ..begun })
+    let mut start = start_with(alloc, symbols, arguments);
+    start.memory = Cells::from_slice(alloc, CELLS)?;
+    Ok(start)
 }
 
 /// Whether a function has one short block, no slot, and small numbers. Then the pass has room.
@@ -136,17 +137,31 @@ fn take_copies(alloc: Global, f: &mut Func) -> Result<Substitutions, Fail> {
     Ok(subs)
 }
 
-/// What is compiled of a row.
-fn compiled(alloc: Global, row: &Row) -> Result<CompiledFunction, Fail> {
-    let source = function(alloc, row, &[]).ok_or("a function")?;
+/// What is compiled of a function behind the pass `copy`.
+fn compiled_without_copies(
+    alloc: Global,
+    source: &Func,
+    f: &mut Func,
+) -> Result<CompiledFunction, Fail> {
+    let subs = take_copies(alloc, f)?;
     let losses = Losses::new(alloc);
+    Ok(compile_function(alloc, source, &*f, &subs, losses, 0)?)
+}
+
+/// What is compiled of a function.
+fn compiled_of(alloc: Global, source: &Func) -> Result<CompiledFunction, Fail> {
+    let subs = Substitutions::new(alloc);
+    let losses = Losses::new(alloc);
+    Ok(compile_function(alloc, source, source, &subs, losses, 0)?)
+}
+
+/// What is compiled of a row.
+fn compiled(alloc: Global, row: &Row, source: &Func) -> Result<CompiledFunction, Fail> {
     if row.copies {
         let mut f = function(alloc, row, &[]).ok_or("a function")?;
-        let subs = take_copies(alloc, &mut f)?;
-        Ok(compile_function(alloc, &source, &f, &subs, losses, 0)?)
+        compiled_without_copies(alloc, source, &mut f)
     } else {
-        let subs = Substitutions::new(alloc);
-        Ok(compile_function(alloc, &source, &source, &subs, losses, 0)?)
+        compiled_of(alloc, source)
     }
 }
 
@@ -326,11 +341,10 @@ fn goes(machine: &mut MachineSimulator<Callees>, row: &Row) -> Result<bool, Allo
     )
 }
 
-/// Whether the last step's item ends a run as a row says.
-fn has_end(alloc: Global, row: &Row) -> Option<bool> {
-    let f = function(alloc, row, &[])?;
+/// Whether the last step's item ends a run of a function as a row says.
+fn has_end(f: &Func, row: &Row) -> Option<bool> {
     match row.steps.last()? {
-        (_, Source::Item(block, item)) => ends(&f, *block, *item, &row.end),
+        (_, Source::Item(block, item)) => ends(f, *block, *item, &row.end),
         _ => None,
     }
 }
@@ -343,13 +357,17 @@ fn push_items(text: &mut Text, items: &[Item]) -> Result<(), AllocError> {
     Ok(())
 }
 
-/// Whether the items of a row's function are printed as the row says.
-fn is_printed(alloc: Global, row: &Row) -> Result<bool, Fail> {
-    let f = function(alloc, row, &[]).ok_or("a function")?;
-    let mut text = Text::new(alloc);
-    for block in f.blocks.as_slice() {
-        push_items(&mut text, block.items.as_slice())?;
+fn push_blocks(text: &mut Text, blocks: &[Block]) -> Result<(), AllocError> {
+    for block in blocks {
+        push_items(text, block.items.as_slice())?;
     }
+    Ok(())
+}
+
+/// Whether the items of a row's function are printed as the row says.
+fn is_printed(alloc: Global, f: &Func, row: &Row) -> Result<bool, AllocError> {
+    let mut text = Text::new(alloc);
+    push_blocks(&mut text, f.blocks.as_slice())?;
     Ok(text.as_slice() == row.text.as_bytes())
 }
 
@@ -369,16 +387,26 @@ fn runs(alloc: Global, code: &Code, row: &Row) -> Result<bool, Fail> {
     Ok(goes(&mut machine, row)?)
 }
 
+/// Whether the code of a row's function is and runs as the row says.
+fn runs_code(alloc: Global, row: &Row, source: &Func) -> Result<bool, Fail> {
+    let found = compiled(alloc, row, source)?;
+    if is_compiled(&found, row) {
+        runs(alloc, &found.code, row)
+    } else {
+        Ok(false)
+    }
+}
+
 /// Whether a row's function is printed, and its code is and runs, as the row says.
 fn runs_compiled(alloc: Global, row: &Row) -> Result<bool, Fail> {
-    if !row.text.is_empty() && !is_printed(alloc, row)? {
+    let f = function(alloc, row, &[]).ok_or("a function")?;
+    if !row.text.is_empty() && !is_printed(alloc, &f, row)? {
         return Ok(false);
     }
-    if has_end(alloc, row) != Some(true) {
+    if has_end(&f, row) != Some(true) {
         return Ok(false);
     }
-    let found = compiled(alloc, row)?;
-    Ok(is_compiled(&found, row) && runs(alloc, &found.code, row)?)
+    runs_code(alloc, row, &f)
 }
 
 /// Whether a run of a function comes to its end within twenty steps, where calls get this answer.
@@ -426,23 +454,39 @@ fn sees_all(state: &SourceState, held: &[(u32, u64)]) -> bool {
     true
 }
 
-/// Whether the interpreter runs a row's function to the same end.
-fn runs_source(alloc: Global, row: &Row) -> Result<bool, Fail> {
-    let f = function(alloc, row, row.held).ok_or("a function")?;
-    if !SourceState::can_run(&f) {
-        return Ok(false);
-    }
-    let subs = Substitutions::new(alloc);
-    let mut state = SourceState::new(alloc, &f, &start(alloc, row.arguments)?)?;
+/// Whether a run stands where a row ends, and shows what the row says.
+fn is_ended(state: &SourceState, f: &Func, row: &Row) -> bool {
+    let at = state.position();
+    ends(f, at.block.number(), at.item, &row.end) == Some(true)
+        && sees_all(state, row.held)
+        && has_last_value(state, row)
+}
+
+/// What every call of a row gives.
+fn answer(row: &Row) -> CallResult {
     let (x10, x11) = row.answer;
-    let answer = CallResult {
+    CallResult {
         regs: registers(x10, x11),
         writes: [None; 8],
-    };
-    let ended = comes_to_end(&mut state, &f, &answer, &subs)?;
-    let at = state.position();
-    let end = ends(&f, at.block.number(), at.item, &row.end);
-    Ok(ended && end == Some(true) && sees_all(&state, row.held) && has_last_value(&state, row))
+    }
+}
+
+/// Whether the interpreter runs a row's function to the same end.
+fn runs_to_end(alloc: Global, f: &Func, row: &Row) -> Result<bool, Fail> {
+    if !SourceState::can_run(f) {
+        return Ok(false);
+    }
+    let start = start(alloc, row.arguments)?;
+    let mut state = SourceState::new(alloc, f, &start)?;
+    let subs = Substitutions::new(alloc);
+    let ended = comes_to_end(&mut state, f, &answer(row), &subs)?;
+    Ok(ended && is_ended(&state, f, row))
+}
+
+/// The same, with marks of the registers that the row looks at.
+fn runs_source(alloc: Global, row: &Row) -> Result<bool, Fail> {
+    let f = function(alloc, row, row.held).ok_or("a function")?;
+    runs_to_end(alloc, &f, row)
 }
 
 /// The number of the first row of which the machine shows anything else.

@@ -66,7 +66,7 @@ pub const TAILS: &[Row] = &[
             At(11),
             Code(
                 Op::PseudoCallIndirect,
-                &[Takes(11), Mask, Gives(1), Takes(10), Gives(10)],
+                &[Use(11), Mask, Gives(1), Takes(10), Gives(10)],
             ),
             RETURN,
         ]],

@@ -3,6 +3,7 @@
 use dwarf_loclists::reader::list_count;
 use emit_code::code::{Code, Words};
 use emit_function::code::code_of;
+use read_program::closing::Parsed;
 use read_program::program::read_program;
 use rv64_instr::decoded::Way;
 use rv64_instr::reg::physical;
@@ -61,13 +62,18 @@ impl CallAnswers for Odd {
     }
 }
 
-/// The machine code of the first function of a text, from address 0 on.
-pub(crate) fn code(alloc: Global, text: &[u8]) -> Result<Code, Fail> {
+/// The first function of a text.
+fn parsed(alloc: Global, text: &[u8]) -> Result<Parsed, Fail> {
     if 16_777_216 < text.len() {
         return Err(Fail::from("a long text"));
     }
-    let program = read_program(alloc, false, text)?;
-    let parsed = program.functions.as_slice().first().ok_or("a function")?;
+    let mut functions = read_program(alloc, false, text)?.functions.into_vec();
+    Ok(functions.pop().ok_or("a function")?)
+}
+
+/// The machine code of a text's function, from address 0 on.
+pub(crate) fn code(alloc: Global, text: &[u8]) -> Result<Code, Fail> {
+    let parsed = parsed(alloc, text)?;
     Ok(code_of(alloc, &parsed.func, 0)?)
 }
 
@@ -134,34 +140,56 @@ fn stands(machine: &MachineSimulator<Odd>, address: u64, n: Option<u64>, s: Opti
     machine.counter() == address && give(machine, &LISTS, n, s)
 }
 
-/// Whether the next step returns, with the sum in x10 and what was saved in x8, x9, x1 and x2.
+/// What is saved in x1, x2, x8 and x9, and what x0 holds.
+const SAVED: &[(u32, u64)] = &[(0, 0), (1, 4_294_967_296), (2, 1_048_576), (8, 7), (9, 7)];
+
+/// Whether registers hold these.
+fn hold(machine: &MachineSimulator<Odd>, held: &[(u32, u64)]) -> bool {
+    for (n, wanted) in held {
+        if register(machine, *n) != Some(*wanted) {
+            return false;
+        }
+    }
+    true
+}
+
+/// Whether the next step returns, with the sum in x10 and what was saved.
 fn returns(machine: &mut MachineSimulator<Odd>, sum: u64) -> bool {
     matches!(machine.step(), Ok(Stepped::Stopped(Stop::Ended(Way::Back))))
         && machine.counter() == 0x44
-        && register(machine, 0) == Some(0)
-        && register(machine, 1) == Some(4_294_967_296)
-        && register(machine, 2) == Some(1_048_576)
-        && register(machine, 8) == Some(7)
-        && register(machine, 9) == Some(7)
+        && hold(machine, SAVED)
         && register(machine, 10) == Some(sum)
 }
 
-/// Whether a run of the sum stands where it should between its steps; what it holds before each is a row of `run.rows`.
+/// How many steps are made, the address where the machine stands then, and the values of n and s there, or 0 where
+/// there is none. What the machine holds before each step is a row of `run.rows`.
+const STANDS: &[(u32, u64, u64, u64)] = &[
+    (0, 0x00, 0, 0),
+    (4, 0x10, 2, 0),
+    (5, 0x28, 0, 5),
+    (5, 0x28, 0, 12),
+    (6, 0x40, 0, 12),
+];
+
+/// A value, or none of 0.
+fn known(value: u64) -> Option<u64> {
+    if value == 0 { None } else { Some(value) }
+}
+
+/// Whether a machine stands where rows say.
+fn comes(machine: &mut MachineSimulator<Odd>, rows: &[(u32, u64, u64, u64)]) -> bool {
+    for (steps, address, n, s) in rows {
+        if !goes_on(machine, *steps) || !stands(machine, *address, known(*n), known(*s)) {
+            return false;
+        }
+    }
+    true
+}
+
+/// Whether a run of the sum stands where it should between its steps, and returns.
 fn sums(alloc: Global, code: &Code) -> Result<bool, Fail> {
     let mut machine = machine(alloc, code, 2)?;
-    Ok(
-        stands(&machine, 0x00, None, None)
-            && goes_on(&mut machine, 4)
-            && stands(&machine, 0x10, Some(2), None)
-            && goes_on(&mut machine, 5)
-            && stands(&machine, 0x28, None, Some(5))
-            && goes_on(&mut machine, 5)
-            && stands(&machine, 0x28, None, Some(12))
-            && goes_on(&mut machine, 6)
-            && stands(&machine, 0x40, None, Some(12))
-            && goes_on(&mut machine, 1)
-            && returns(&mut machine, 12),
-    )
+    Ok(comes(&mut machine, STANDS) && goes_on(&mut machine, 1) && returns(&mut machine, 12))
 }
 
 /// Whether a run of the sum returns after a hundred calls, which give 5, 7, .., 203.

@@ -23,6 +23,7 @@ use pass_salvage::fresh::greatest_in_blocks;
 use pass_salvage::lookup::Lookup;
 use pass_salvage::salvage::{put_phi, salvage};
 use pass_salvage::salvage_action::SalvageAction;
+use pass_trait::loss::Losses;
 use pass_trait::pass::Pass;
 use read_program::closing::Parsed;
 use read_program::program::read_program;
@@ -163,19 +164,45 @@ fn left(
 ) -> Result<Text, Fail> {
     let mut blocks = copy_blocks(alloc, parsed.func.blocks.as_slice())?.into_vec();
     let mut subs = parsed.subs.copy()?;
-    let mut text = Text::new(alloc);
     match blocks.first_mut() {
-        Some(block) => {
-            let items = &mut block.items.items;
-            let fresh = take_out(alloc, items, &mut subs, at, removed, by_index)?;
-            push_items(&mut text, items.as_slice())?;
-            push_entries(&mut text, subs.entries())?;
-            push_numbered(&mut text, "fresh ", fresh)?;
-            push_str(&mut text, "\n")?;
-            Ok(text)
-        }
+        Some(block) => left_of(
+            alloc,
+            &mut block.items.items,
+            &mut subs,
+            at,
+            removed,
+            by_index,
+        ),
         None => Err(Fail::from("a block")),
     }
+}
+
+/// The same of items.
+fn left_of(
+    alloc: Global,
+    items: &mut Vec<Item>,
+    subs: &mut Substitutions,
+    at: usize,
+    removed: &[bool],
+    by_index: bool,
+) -> Result<Text, Fail> {
+    let fresh = take_out(alloc, items, subs, at, removed, by_index)?;
+    let mut text = Text::new(alloc);
+    push_rest(&mut text, items.as_slice(), subs, fresh)?;
+    Ok(text)
+}
+
+/// Appends items, substitutions and a fresh number.
+fn push_rest(
+    text: &mut Text,
+    items: &[Item],
+    subs: &Substitutions,
+    fresh: u32,
+) -> Result<(), AllocError> {
+    push_items(text, items)?;
+    push_entries(text, subs.entries())?;
+    push_numbered(text, "fresh ", fresh)?;
+    push_str(text, "\n")
 }
 
 /// Takes a copy out, and returns the next fresh number.
@@ -254,14 +281,19 @@ fn registers_of(alloc: Global, numbers: &[u32]) -> Result<Registers, Fail> {
     Ok(registers)
 }
 
+/// Appends what is lost, and the substitutions.
+fn push_changes(text: &mut Text, losses: &Losses, subs: &Substitutions) -> Result<(), AllocError> {
+    push_losses(text, losses.as_slice())?;
+    push_entries(text, subs.entries())
+}
+
 fn spill(alloc: Global, pass: &mut SpillPass, f: &mut Func, text: &mut Text) -> Result<(), Fail> {
     if !is_small(f) {
         return Err(Fail::from("a large function"));
     }
     let mut subs = Substitutions::new(alloc);
     let losses = pass.run(alloc, f, &mut subs)?;
-    push_losses(text, losses.as_slice())?;
-    push_entries(text, subs.entries())?;
+    push_changes(text, &losses, &subs)?;
     Ok(())
 }
 
@@ -274,8 +306,7 @@ fn push_scanned(alloc: Global, f: &mut Func, numbers: &[u32], text: &mut Text) -
     let mut pass = ScanPass { reserve };
     let mut subs = Substitutions::new(alloc);
     let losses = pass.run(alloc, f, &mut subs)?;
-    push_losses(text, losses.as_slice())?;
-    push_entries(text, subs.entries())?;
+    push_changes(text, &losses, &subs)?;
     push_function(f, text)?;
     Ok(())
 }

@@ -2,6 +2,7 @@
 
 use crate::parts::function_of;
 use pass_liveness::live::Live;
+use read_program::closing::Parsed;
 use std::alloc::Global;
 use std::fmt::Write;
 use std::test::Fail;
@@ -51,16 +52,28 @@ fn push_ladder(text: &mut String) -> Result<(), Fail> {
     Ok(())
 }
 
-/// The numbers of visits by the worklist and of sweeps in a shape: 0 is the chain, 1 the ring, 2 the ladder.
-fn visits(alloc: Global, shape: u32) -> Result<(u64, u64), Fail> {
-    let mut text = String::from_str(alloc, "---\nname: f\nbody: |\n")?;
+/// Appends the blocks of a shape: 0 is the chain, 1 the ring, 2 the ladder.
+fn push_shape(text: &mut String, shape: u32) -> Result<(), Fail> {
+    text.push_str("---\nname: f\nbody: |\n")?;
     match shape {
-        0 => push_chain(&mut text)?,
-        1 => push_ring(&mut text)?,
-        _ => push_ladder(&mut text)?,
+        0 => push_chain(text)?,
+        1 => push_ring(text)?,
+        _ => push_ladder(text)?,
     }
     text.push_str("...\n")?;
-    let parsed = function_of(alloc, text.as_str())?;
+    Ok(())
+}
+
+/// The function of a shape.
+fn shaped(alloc: Global, shape: u32) -> Result<Parsed, Fail> {
+    let mut text = String::new(alloc);
+    push_shape(&mut text, shape)?;
+    function_of(alloc, text.as_str())
+}
+
+/// The numbers of visits by the worklist and of sweeps in a shape.
+fn visits(alloc: Global, shape: u32) -> Result<(u64, u64), Fail> {
+    let parsed = shaped(alloc, shape)?;
     let (_, took) = Live::solve_counting(alloc, &parsed.func)?;
     Ok((took.visits, took.sweeps))
 }
@@ -69,13 +82,19 @@ fn visits(alloc: Global, shape: u32) -> Result<(u64, u64), Fail> {
 /// 1,587 and 402 or more; where no block is visited again by the worklist there are 23 sweeps of the last shape.
 const MOST: &[(u32, u64)] = &[(0, 64), (1, 128), (2, 384)];
 
+/// The first shape that takes more visits or another number of sweeps than one.
+fn other_shape(alloc: Global, shapes: &[(u32, u64)]) -> Result<Option<u32>, Fail> {
+    for (shape, most) in shapes {
+        let (visits, sweeps) = visits(alloc, *shape)?;
+        if *most < visits || sweeps != 1 {
+            return Ok(Some(*shape));
+        }
+    }
+    Ok(None)
+}
+
 #[test]
 fn liveness_visits_few_blocks_again(rt: HostRuntime) -> Result<(), Fail> {
-    let alloc = rt.alloc();
-    for (shape, most) in MOST {
-        let (visits, sweeps) = visits(alloc, *shape)?;
-        assert!(rt; visits <= *most, "{visits} visits");
-        assert_eq!(rt; sweeps, 1);
-    }
+    assert_eq!(rt; other_shape(rt.alloc(), MOST)?, None);
     Ok(())
 }

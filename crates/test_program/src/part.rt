@@ -130,18 +130,20 @@ fn add_turn(text: &str, turn: u32, bytes: &mut Vec<u8>) -> anyhow::Result<()> {
 
 /// The turn's number times the factor behind `*`, the rest of this by the number behind `%`, and the one behind `+`
 /// more.
-fn number_at(term: &str, turn: u32) -> anyhow::Result<u64> {
+fn number_at(term: &str, turn: u32) -> Option<u64> {
     let (term, summand) = term.split_once('+').unwrap_or((term, "0"));
     let (factor, modulus) = term.split_once('%').unwrap_or((term, ""));
-    let factor = factor.strip_prefix('*').unwrap_or("1").parse::<u64>()?;
-    let product = u64::from(turn).checked_mul(factor).context("a product")?;
-    let rest = if modulus.is_empty() {
-        product
-    } else {
-        let modulus = modulus.parse::<u64>()?;
-        product.checked_rem(modulus).context("a rest")?
-    };
-    rest.checked_add(summand.parse::<u64>()?).context("a sum")
+    let factor = factor.strip_prefix('*').unwrap_or("1").parse::<u64>().ok()?;
+    let product = u64::from(turn).checked_mul(factor)?;
+    rest_of(product, modulus)?.checked_add(summand.parse::<u64>().ok()?)
+}
+
+/// The rest of a number by a modulus, if there is one.
+fn rest_of(number: u64, modulus: &str) -> Option<u64> {
+    if modulus.is_empty() {
+        return Some(number);
+    }
+    number.checked_rem(modulus.parse::<u64>().ok()?)
 }
 
 /// Adds bytes of two hexadecimal digits each.

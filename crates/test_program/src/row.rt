@@ -12,7 +12,7 @@ const TOLD: usize = 1 << 10;
 
 /// Faults of a run: which call of its input fails, and which call of its output; how many bytes a call of each moves
 /// at most; and how many bytes its output and its errors have room for. No call has the number 0.
-#[derive(Clone, Copy, Debug)]
+#[derive(Clone, Copy)]
 pub struct Faulty {
     pub read: u64,
     pub write: u64,
@@ -89,12 +89,10 @@ impl Ending {
         output: &[u8],
         told: &[u8],
     ) -> Result<Ending, AllocError> {
-        let mut outputs = Vec::new(alloc);
-        outputs.push(Output {
-            place: Place::Whole,
-            bytes: Vec::from_slice(alloc, output)?,
-        })?;
+        let bytes = Vec::from_slice(alloc, output)?;
         let told = Vec::from_slice(alloc, told)?;
+        let place = Place::Whole;
+        let outputs = vec![in alloc; Output { place, bytes }]?;
         Ok(Ending {
             status,
             outputs,
@@ -106,12 +104,10 @@ impl Ending {
     pub fn whole(&self) -> Option<&[u8]> {
         match self.outputs.as_slice() {
             [] => Some(&[]),
-            [
-                Output {
-                    place: Place::Whole,
-                    bytes,
-                },
-            ] => Some(bytes.as_slice()),
+            [only] => match only.place {
+                Place::Whole => Some(only.bytes.as_slice()),
+                Place::Begins | Place::Ends | Place::Holds => None,
+            },
             _ => None,
         }
     }
@@ -186,6 +182,23 @@ fn place_named(name: &str) -> Option<Place> {
     }
 }
 
+/// Takes a part into the texts, as a new row, or into the last row.
+fn take_part(
+    alloc: Global,
+    part: Part<'_>,
+    texts: &mut Texts,
+    rows: &mut Vec<Row>,
+) -> anyhow::Result<()> {
+    match part.word {
+        "let" => texts.name(part),
+        "row" => Ok(rows.push(Row::new(alloc, part.rest)?)?),
+        word => match rows.last_mut() {
+            Some(row) => row.take(part, texts),
+            None => bail!("no row is above {word}"),
+        },
+    }
+}
+
 /// The rows of a file's text.
 pub fn rows_of(alloc: Global, text: &str) -> anyhow::Result<Vec<Row>> {
     let text = text.strip_suffix('\n').unwrap_or(text);
@@ -193,15 +206,7 @@ pub fn rows_of(alloc: Global, text: &str) -> anyhow::Result<Vec<Row>> {
     let mut texts = Texts::new(alloc);
     let mut rows = Vec::new(alloc);
     for text in text.split("\n==== ") {
-        let part = Part::new(text);
-        match part.word {
-            "let" => texts.name(part)?,
-            "row" => rows.push(Row::new(alloc, part.rest)?)?,
-            word => match rows.last_mut() {
-                Some(row) => row.take(part, &texts)?,
-                None => bail!("no row is above {word}"),
-            },
-        }
+        take_part(alloc, Part::new(text), &mut texts, &mut rows)?;
     }
     Ok(rows)
 }

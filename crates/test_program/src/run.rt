@@ -26,15 +26,25 @@ struct Ended {
     told: MemorySink,
 }
 
+/// A word of a run by its text, which is `""` for the empty word.
+fn word_of(text: &str) -> &str {
+    if text == "\"\"" { "" } else { text }
+}
+
+/// Appends the words of a run.
+fn push_words(alloc: Global, text: &str, words: &mut Vec<String>) -> Result<(), AllocError> {
+    for text in text.split(' ') {
+        let word = String::from_str(alloc, word_of(text))?;
+        words.push(word)?;
+    }
+    Ok(())
+}
+
 /// The words of a run.
 fn words_of(alloc: Global, text: &str) -> Result<Vec<String>, AllocError> {
     let mut words = Vec::new(alloc);
-    if text.is_empty() {
-        return Ok(words);
-    }
-    for word in text.split(' ') {
-        let word = if word == "\"\"" { "" } else { word };
-        words.push(String::from_str(alloc, word)?)?;
+    if !text.is_empty() {
+        push_words(alloc, text, &mut words)?;
     }
     Ok(words)
 }
@@ -73,6 +83,19 @@ fn run_on(alloc: Global, words: &str, text: &[u8], faulty: Faulty) -> Result<End
     })
 }
 
+/// Whether bytes stand anywhere among others.
+fn holds(written: &[u8], bytes: &[u8]) -> bool {
+    if bytes.is_empty() {
+        return true;
+    }
+    for window in written.windows(bytes.len()) {
+        if window == bytes {
+            return true;
+        }
+    }
+    false
+}
+
 /// Whether bytes stand on the output where they should.
 fn stands(output: &Output, written: &[u8]) -> bool {
     let bytes = output.bytes.as_slice();
@@ -80,7 +103,7 @@ fn stands(output: &Output, written: &[u8]) -> bool {
         Place::Whole => written == bytes,
         Place::Begins => written.starts_with(bytes),
         Place::Ends => written.ends_with(bytes),
-        Place::Holds => bytes.is_empty() || written.windows(bytes.len()).any(|it| it == bytes),
+        Place::Holds => holds(written, bytes),
     }
 }
 
@@ -107,11 +130,21 @@ struct Run<'a> {
 fn tell(rt: &impl Print, alloc: Global, run: &Run<'_>, ended: &Ended) -> anyhow::Result<()> {
     let name = run.row.name.as_str();
     let words = run.words;
-    let faulty = run.faulty;
+    let Faulty {
+        read,
+        write,
+        gives,
+        takes,
+        room,
+        tells,
+    } = run.faulty;
     let status = ended.status;
     let told = String::from_utf8_lossy(alloc, ended.told.written())?;
     let output = String::from_utf8_lossy(alloc, ended.output.sink.written())?;
-    println!(rt; "{name}: {words}: {faulty:?}: status {status}, told {told:?}, output:")?;
+    println!(rt;
+        "{name}: {words}: read {read}, write {write}, gives {gives}, takes {takes}, room {room}, tells {tells}"
+    )?;
+    println!(rt; "status {status}, told {told:?}, output:")?;
     println!(rt; "{output}")?;
     if run.row.texts.len() > 1 {
         let text = String::from_utf8_lossy(alloc, run.text)?;

@@ -69,12 +69,31 @@ fn push_read(
     }
 }
 
+/// Whether this is what is told of an input.
+fn is_read(
+    alloc: Global,
+    text: &str,
+    limit: u8,
+    fails: u64,
+    wanted: &str,
+) -> Result<bool, AllocError> {
+    let mut told = String::new(alloc);
+    push_read(alloc, &mut told, text, limit, fails)?;
+    Ok(told.as_str() == wanted)
+}
+
+/// The number of the first row of which something else is told.
+fn other_input(alloc: Global, rows: &[(&str, u8, u64, &str)]) -> Result<Option<usize>, AllocError> {
+    for (row, (text, limit, fails, wanted)) in rows.iter().enumerate() {
+        if !is_read(alloc, text, *limit, *fails, wanted)? {
+            return Ok(Some(row));
+        }
+    }
+    Ok(None)
+}
+
 #[test]
 fn reads_inputs(rt: HostRuntime) -> Result<(), Fail> {
-    for (text, limit, fails, wanted) in INPUTS {
-        let mut told = String::new(rt.alloc());
-        push_read(rt.alloc(), &mut told, text, *limit, *fails)?;
-        assert_eq!(rt; told.as_str(), *wanted, "{text:?}");
-    }
+    assert_eq!(rt; other_input(rt.alloc(), INPUTS)?, None);
     Ok(())
 }

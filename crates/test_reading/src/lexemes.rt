@@ -5,8 +5,8 @@ use base_ids::metadata::NodeId;
 use read_lexer::fault::LexError;
 use read_lexer::lexer::tokens;
 use read_token::lexeme::Lexeme::{
-    Block, Close, Colon, Comma, Constant, Equals, Expression, Fixed, InlineLocation, Integer,
-    Minus, Node, Open, Other, Plus, Register, Slot,
+    Block, Close, Colon, Comma, Constant, Equals, Expression, Fixed, Float, InlineLocation,
+    Integer, Minus, Node, Open, Other, Plus, Register, Slot,
 };
 use read_token::lexeme::Number::{Fits, Large, Wide};
 use read_token::lexeme::{BEYOND, Lexeme, RegisterName};
@@ -16,7 +16,7 @@ use std::test::Fail;
 
 /// What a text of one token stands for.
 fn only_lexeme(alloc: Global, text: &str) -> Result<Lexeme, Fail> {
-    let found = match tokens(alloc, text.as_bytes()) {
+    let found = match tokens(alloc, true, text.as_bytes()) {
         Ok(found) => found,
         Err(LexError::BadByte(_) | LexError::UnclosedString(_) | LexError::Memory) => {
             return Err(Fail::from("no tokens"));
@@ -27,6 +27,19 @@ fn only_lexeme(alloc: Global, text: &str) -> Result<Lexeme, Fail> {
         [lexeme] => Ok(*lexeme),
         _ => Err(Fail::from("not one token")),
     }
+}
+
+/// The first text that stands for something else.
+fn other_lexeme(
+    alloc: Global,
+    rows: &[(&'static str, Lexeme)],
+) -> Result<Option<&'static str>, Fail> {
+    for (text, wanted) in rows {
+        if only_lexeme(alloc, text)? != *wanted {
+            return Ok(Some(*text));
+        }
+    }
+    Ok(None)
 }
 
 /// A text of one token that is no word and no symbol stands for this.
@@ -69,6 +82,8 @@ fn reads_tokens(rt: HostRuntime) -> Result<(), Fail> {
         ("340282366920938463463374607431768211455", Integer(Large)),
         ("-340282366920938463463374607431768211456", Integer(Wide)),
         ("0x100000000000000000000000000000000", Integer(Wide)),
+        ("2.000000e+00", Float),
+        ("-0.5", Float),
         ("'a'", Other),
         (",", Comma),
         ("=", Equals),
@@ -79,8 +94,6 @@ fn reads_tokens(rt: HostRuntime) -> Result<(), Fail> {
         ("-", Minus),
         ("|", Other),
     ];
-    for (text, expected) in lexemes {
-        assert_eq!(rt; only_lexeme(rt.alloc(), text)?, expected, "{text}");
-    }
+    assert_eq!(rt; other_lexeme(rt.alloc(), lexemes.as_slice())?, None);
     Ok(())
 }

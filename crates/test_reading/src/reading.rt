@@ -13,6 +13,8 @@ use std::test::Fail;
 enum Asked {
     /// The tokens of a line, or its fault.
     Tokens,
+    /// The same where floating-point literals are tokens.
+    LinkedTokens,
     /// What stands before a line's comment.
     Comment,
     /// What stands before a line's memory operands.
@@ -109,6 +111,12 @@ body
 None";
 
 /// Lines, most of them as llc writes them, with each token's class and text, or with their faults.
+const LINKED_TOKENS: &[(&str, &str)] = &[
+    ("double 2.000000e+00, 1.5", "wdouble f2.000000e+00 ,, f1.5 "),
+    ("-0.5e7 1.5e -2.0e-1 0x1", "f-0.5e7 f1.5 we f-2.0e-1 i0x1 "),
+    ("1.5.2", "byte 3 begins no token"),
+];
+
 const TOKENS: &[(&str, &str)] = &[
     ("  bb.1 (%ir-block.4):", "wbb.1 (( p%ir-block.4 )) :: "),
     ("    liveins: $x10, $x11", "wliveins :: r$x10 ,, r$x11 "),
@@ -379,7 +387,8 @@ const BEYOND: &str = "!1073741824 = !DIBasicType(name: \"t\", size: 8, encoding:
 fn push_told(alloc: Global, told: &mut String, asked: Asked, text: &str) -> Result<(), AllocError> {
     let bytes = text.as_bytes();
     match asked {
-        Asked::Tokens => tokens::push_tokens(alloc, told, bytes),
+        Asked::Tokens => tokens::push_tokens(alloc, false, told, bytes),
+        Asked::LinkedTokens => tokens::push_tokens(alloc, true, told, bytes),
         Asked::Comment => push_bytes(told, before_comment(bytes)),
         Asked::MemoryOperands => push_bytes(told, before_memory_operands(bytes)),
         Asked::Documents => documents::push_documents_of(alloc, told, bytes),
@@ -407,7 +416,8 @@ fn ask_meta(rt: &impl Abort, alloc: Global, text: &str, rows: &[(Meta, &str)]) -
 
 #[test]
 fn reads_tokens(rt: HostRuntime) -> Result<(), Fail> {
-    ask(&rt, rt.alloc(), Asked::Tokens, TOKENS)
+    ask(&rt, rt.alloc(), Asked::Tokens, TOKENS)?;
+    ask(&rt, rt.alloc(), Asked::LinkedTokens, LINKED_TOKENS)
 }
 
 #[test]

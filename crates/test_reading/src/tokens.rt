@@ -16,6 +16,7 @@ fn letter(class: Class) -> char {
         Class::Kind => 'k',
         Class::Symbol => 's',
         Class::Integer => 'i',
+        Class::Float => 'f',
         Class::Text => 't',
         Class::Single(b) => char::from(b),
     }
@@ -33,9 +34,15 @@ fn push_all(told: &mut String, line: &[u8], found: &[Token]) -> Result<(), Alloc
     Ok(())
 }
 
-/// Appends the tokens of a line before its memory operands, or the line's fault.
-pub fn push_tokens(alloc: Global, told: &mut String, line: &[u8]) -> Result<(), AllocError> {
-    match tokens(alloc, before_memory_operands(line)) {
+/// Appends the tokens of a line before its memory operands, or the line's fault; `floats` is whether floating-point
+/// literals are tokens.
+pub fn push_tokens(
+    alloc: Global,
+    floats: bool,
+    told: &mut String,
+    line: &[u8],
+) -> Result<(), AllocError> {
+    match tokens(alloc, floats, before_memory_operands(line)) {
         Ok(found) => push_all(told, line, found.as_slice()),
         Err(fault) => told.push_str(fault.to_string(alloc)?.as_str()),
     }

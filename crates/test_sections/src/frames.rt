@@ -158,7 +158,7 @@ fn push(rows: &mut RowList, address: u64, rules: &FrameRow) -> Result<(), AllocE
 }
 
 /// The function of the section.
-fn function(alloc: Global) -> Result<FrameDescription, AllocError> {
+pub(crate) fn function(alloc: Global) -> Result<FrameDescription, AllocError> {
     let mut rows = List::new(alloc);
     push(&mut rows, 4, &framed())?;
     push(&mut rows, 0x0c, &saving())?;
@@ -189,39 +189,59 @@ fn is_section(
     }
 }
 
+/// The section in which the temporary registers are undefined.
+fn with_temporary(alloc: Global) -> Result<List<u8>, AllocError> {
+    let mut section = List::new(alloc);
+    section.extend_from_slice(&TEMPORARY_COMMON)?;
+    section.extend_from_slice(&SECTION[24..])?;
+    Ok(section)
+}
+
+/// Whether registers have the rules of address 0x0c in that section.
+fn are_saving(rules: &UnwindingRules) -> bool {
+    rules.registers[0] == RegisterRule::SameValue
+        && rules.registers[1] == RegisterRule::Below(16)
+        && rules.registers[2] == RegisterRule::FrameAddress
+        && rules.registers[8] == RegisterRule::SameValue
+        && rules.registers[10] == RegisterRule::Undefined
+        && rules.registers[18] == RegisterRule::Below(8)
+}
+
+/// Whether a section has those rules.
+fn has_saving(bytes: &[u8]) -> bool {
+    match rules_at(&TEMPORARY, bytes, 0x0c) {
+        Some(rules) => are_saving(&rules),
+        None => false,
+    }
+}
+
+/// Whether the section of the function, with these registers undefined, is this one.
+fn is_section_of_function(
+    alloc: Global,
+    undefined: &[u8],
+    bytes: &[u8],
+) -> Result<bool, AllocError> {
+    let functions = vec![in alloc; function(alloc)?]?;
+    Ok(is_section(alloc, undefined, &functions, bytes))
+}
+
 #[test]
 fn frames_are_read_and_written(rt: HostRuntime) -> Result<(), Fail> {
     let alloc = rt.alloc();
-    let bytes: &[u8] = &SECTION;
-    assert!(rt; is_at(bytes, 0, &outside()));
-    assert!(rt; is_at(bytes, 4, &framed()));
-    assert!(rt; is_at(bytes, 0x0c, &saving()));
-    assert!(rt; is_at(bytes, 0x28, &outside()));
-    assert!(rt; is_none_at(bytes, 0x2c));
-    assert_eq!(rt; other_fault(alloc, bytes, DAMAGED)?, None);
-    let functions = vec![in alloc; function(alloc)?]?;
-    assert!(rt; is_section(alloc, &[], &functions, bytes));
+    assert!(rt; is_at(&SECTION, 0, &outside()));
+    assert!(rt; is_at(&SECTION, 4, &framed()));
+    assert!(rt; is_at(&SECTION, 0x0c, &saving()));
+    assert!(rt; is_at(&SECTION, 0x28, &outside()));
+    assert!(rt; is_none_at(&SECTION, 0x2c));
+    assert_eq!(rt; other_fault(alloc, &SECTION, DAMAGED)?, None);
+    assert!(rt; is_section_of_function(alloc, &[], &SECTION)?);
     Ok(())
 }
 
 #[test]
 fn lost_registers_are_undefined(rt: HostRuntime) -> Result<(), Fail> {
-    let alloc = rt.alloc();
-    let mut section = List::new(alloc);
-    section.extend_from_slice(&TEMPORARY_COMMON)?;
-    section.extend_from_slice(&SECTION[24..])?;
-    let bytes = section.as_slice();
-    let functions = vec![in alloc; function(alloc)?]?;
-    assert!(rt; is_section(alloc, &TEMPORARY, &functions, bytes));
-    let Some(rules) = rules_at(&TEMPORARY, bytes, 0x0c) else {
-        assert!(rt; false);
-        return Ok(());
-    };
-    assert!(rt; rules.registers[0] == RegisterRule::SameValue);
-    assert!(rt; rules.registers[1] == RegisterRule::Below(16));
-    assert!(rt; rules.registers[2] == RegisterRule::FrameAddress);
-    assert!(rt; rules.registers[8] == RegisterRule::SameValue);
-    assert!(rt; rules.registers[10] == RegisterRule::Undefined);
-    assert!(rt; rules.registers[18] == RegisterRule::Below(8));
+    let section = with_temporary(rt.alloc())?;
+    assert!(rt; is_section_of_function(rt.alloc(), &TEMPORARY, section.as_slice())?);
+    assert!(rt; has_saving(section.as_slice()));
     Ok(())
 }

@@ -77,23 +77,58 @@ fn is_signed(bytes: &[u8], number: i64, after: usize) -> bool {
     }
 }
 
+/// The first number without a sign that isn't written and read so.
+fn other_unsigned(rows: &[(u64, &[u8], usize)]) -> Option<u64> {
+    for (number, bytes, after) in rows {
+        if !is_unsigned(bytes, *number, *after) {
+            return Some(*number);
+        }
+    }
+    None
+}
+
+/// The same with a sign.
+fn other_signed(rows: &[(i64, &[u8], usize)]) -> Option<i64> {
+    for (number, bytes, after) in rows {
+        if !is_signed(bytes, *number, *after) {
+            return Some(*number);
+        }
+    }
+    None
+}
+
+/// Whether no number without a sign is read of any bytes.
+fn none_is_unsigned(rows: &[&[u8]]) -> bool {
+    for bytes in rows {
+        if split_uleb(bytes).is_some() {
+            return false;
+        }
+    }
+    true
+}
+
+/// The same with a sign.
+fn none_is_signed(rows: &[&[u8]]) -> bool {
+    for bytes in rows {
+        if split_sleb(bytes).is_some() {
+            return false;
+        }
+    }
+    true
+}
+
+/// Whether four bytes are a number, and are cut off of five.
+fn is_split(number: u32) -> bool {
+    match split_u32(&[1, 2, 0, 0, 7]) {
+        Some((n, rest)) => n == number && rest.len() == 1,
+        None => false,
+    }
+}
+
 #[test]
 fn numbers_are_written_and_read(rt: HostRuntime) {
-    for (number, bytes, after) in UNSIGNED {
-        assert!(rt; is_unsigned(bytes, *number, *after), "{number}");
-    }
-    for (number, bytes, after) in SIGNED {
-        assert!(rt; is_signed(bytes, *number, *after), "{number}");
-    }
-    for bytes in NOT_UNSIGNED {
-        assert!(rt; split_uleb(bytes).is_none());
-    }
-    for bytes in NOT_SIGNED {
-        assert!(rt; split_sleb(bytes).is_none());
-    }
-    assert_eq!(rt;
-        split_u32(&[1, 2, 0, 0, 7]).map(|(n, rest)| (n, rest.len())),
-        Some((0x201, 1))
-    );
-    assert!(rt; split_u32(&[1, 2, 0]).is_none());
+    assert_eq!(rt; other_unsigned(UNSIGNED), None);
+    assert_eq!(rt; other_signed(SIGNED), None);
+    assert!(rt; none_is_unsigned(NOT_UNSIGNED) && none_is_signed(NOT_SIGNED));
+    assert!(rt; is_split(0x201) && split_u32(&[1, 2, 0]).is_none());
 }

@@ -1,6 +1,6 @@
 //! Tests that only calls within the program show: LEB128 numbers, readers of sections on damaged input, writers at
-//! bounds that no text reaches, and the sections of a program without functions. Whole sections of texts are in the
-//! rows of `test_program`.
+//! bounds that no text reaches, the sections of a program without functions, and the object that a linker places. Whole
+//! sections of texts are in the rows of `test_program`.
 #![tactic(auto)]
 
 #[cfg(test)]
@@ -13,6 +13,10 @@ mod frames;
 mod leb128;
 #[cfg(test)]
 mod line_tables;
+#[cfg(test)]
+mod linkable;
+#[cfg(test)]
+mod linkable_tables;
 #[cfg(test)]
 mod loaded;
 #[cfg(test)]

@@ -150,7 +150,7 @@ const DIRS: &[&[u8]] = &[b"/a", b""];
 const FILES: &[(&[u8], u32)] = &[(b"a.c", 0), (b"b.h", 200)];
 
 /// Directories of these names.
-fn dirs_of(alloc: Global, names: &[&[u8]]) -> Result<NameList, AllocError> {
+pub(crate) fn dirs_of(alloc: Global, names: &[&[u8]]) -> Result<NameList, AllocError> {
     let mut dirs = List::new(alloc);
     for name in names {
         dirs.push(List::from_slice(alloc, name)?)?;
@@ -159,7 +159,7 @@ fn dirs_of(alloc: Global, names: &[&[u8]]) -> Result<NameList, AllocError> {
 }
 
 /// Files of these names and directories.
-fn files_of(alloc: Global, named: &[(&[u8], u32)]) -> Result<FileEntries, AllocError> {
+pub(crate) fn files_of(alloc: Global, named: &[(&[u8], u32)]) -> Result<FileEntries, AllocError> {
     let mut files = List::new(alloc);
     for (name, dir) in named {
         let name = List::from_slice(alloc, name)?;
@@ -216,19 +216,31 @@ fn other_fault(
     Ok(None)
 }
 
+/// Where a section that ends too early has no fault at its start.
+fn other_end(alloc: Global, bytes: &[u8]) -> Option<usize> {
+    for end in 0..bytes.len() {
+        if fault(alloc, &bytes[..end]) != Some(0) {
+            return Some(end);
+        }
+    }
+    None
+}
+
+/// Whether the section of the directories and files above and of the sequences of a section is that section.
+fn is_written_again(alloc: Global, bytes: &[u8]) -> Result<bool, AllocError> {
+    let dirs = dirs_of(alloc, DIRS)?;
+    let files = files_of(alloc, FILES)?;
+    Ok(is_written(alloc, dirs, files, bytes))
+}
+
 #[test]
 fn tables_are_read_and_written(rt: HostRuntime) -> Result<(), Fail> {
     let alloc = rt.alloc();
-    let one: &[u8] = &ONE;
-    let two: &[u8] = &TWO;
-    assert!(rt; are_read(alloc, one, ROWS_ONE));
-    assert!(rt; are_read(alloc, two, ROWS_TWO));
-    assert_eq!(rt; other_fault(alloc, one, DAMAGED_ONE)?, None);
-    assert_eq!(rt; other_fault(alloc, two, DAMAGED_TWO)?, None);
-    for end in 0..one.len() {
-        assert!(rt; fault(alloc, &one[..end]) == Some(0), "at {end}");
-    }
-    let dirs = dirs_of(alloc, DIRS)?;
-    assert!(rt; is_written(alloc, dirs, files_of(alloc, FILES)?, two));
+    assert!(rt; are_read(alloc, &ONE, ROWS_ONE));
+    assert!(rt; are_read(alloc, &TWO, ROWS_TWO));
+    assert_eq!(rt; other_fault(alloc, &ONE, DAMAGED_ONE)?, None);
+    assert_eq!(rt; other_fault(alloc, &TWO, DAMAGED_TWO)?, None);
+    assert_eq!(rt; other_end(alloc, &ONE), None);
+    assert!(rt; is_written_again(alloc, &TWO)?);
     Ok(())
 }

@@ -8,7 +8,7 @@ use dwarf_loclists::range::{Location, Part, Range};
 use dwarf_loclists::reader::{list_count, piece_at, place_at};
 use rv64_instr::place::Place;
 use rv64_instr::reg::physical;
-use std::alloc::Global;
+use std::alloc::{AllocError, Global};
 use std::test::Fail;
 
 /// The section of one list of one range: x10 from 0 to 8.
@@ -212,6 +212,26 @@ fn other_fault(
     Ok(None)
 }
 
+/// Whether the fault is this one where any of these bits of a byte is turned over.
+fn is_fault_of_turns(
+    alloc: Global,
+    bytes: &[u8],
+    at: usize,
+    bits: u8,
+    wanted: Option<usize>,
+) -> Result<bool, Fail> {
+    let byte = *bytes.get(at).ok_or("a byte")?;
+    for bit in [1u8, 2, 4, 8, 16, 32, 64, 128] {
+        if bits & bit != 0 {
+            let bytes = changed(alloc, bytes, at, byte ^ bit)?;
+            if fault(&bytes) != wanted {
+                return Ok(false);
+            }
+        }
+    }
+    Ok(true)
+}
+
 /// The first byte of a table where the fault is another one with a bit turned over.
 fn other_turn(
     alloc: Global,
@@ -219,58 +239,89 @@ fn other_turn(
     turned: &[(usize, u8, Option<usize>)],
 ) -> Result<Option<usize>, Fail> {
     for (at, bits, wanted) in turned {
-        let byte = *bytes.get(*at).ok_or("a byte")?;
-        for bit in [1u8, 2, 4, 8, 16, 32, 64, 128] {
-            if *bits & bit == 0 {
-                continue;
-            }
-            let bytes = changed(alloc, bytes, *at, byte ^ bit)?;
-            if fault(&bytes) != *wanted {
-                return Ok(Some(*at));
-            }
+        if !is_fault_of_turns(alloc, bytes, *at, *bits, *wanted)? {
+            return Ok(Some(*at));
         }
     }
     Ok(None)
 }
 
-#[test]
-fn lists_are_read_and_written(rt: HostRuntime) -> Result<(), Fail> {
-    let one: &[u8] = &ONE;
-    let two: &[u8] = &TWO;
-    let pieces: &[u8] = &PIECES;
-    assert_eq!(rt; list_count(one), Ok(1));
-    assert_eq!(rt; list_count(two), Ok(2));
-    assert_eq!(rt; list_count(pieces), Ok(1));
-    assert_eq!(rt; other_fault(rt.alloc(), one, DAMAGED)?, None);
-    assert_eq!(rt; other_turn(rt.alloc(), one, TURNED)?, None);
-    assert_eq!(rt; other_turn(rt.alloc(), pieces, TURNED_PIECES)?, None);
-    for (bytes, at) in BEYOND {
-        assert!(rt; fault(bytes) == Some(*at), "{at}");
+/// The first fault of a row that is another one.
+fn other_beyond(rows: &[(&[u8], usize)]) -> Option<usize> {
+    for (bytes, at) in rows {
+        if fault(bytes) != Some(*at) {
+            return Some(*at);
+        }
     }
-    // Each proper prefix is wrong from its length on
-    for n in 0..two.len() {
-        assert!(rt; fault(&two[..n]) == Some(0), "{n}");
+    None
+}
+
+/// The first length from which on a prefix isn't wrong.
+fn other_prefix(bytes: &[u8]) -> Option<usize> {
+    for n in 0..bytes.len() {
+        if fault(&bytes[..n]) != Some(0) {
+            return Some(n);
+        }
     }
-    for (address, n) in WHOLE {
-        assert!(rt; place(pieces, 0, *address) == Ok(register(*n)), "{address}");
+    None
+}
+
+/// The first address where another register has the whole.
+fn other_whole(bytes: &[u8], rows: &[(u64, u32)]) -> Option<u64> {
+    for (address, n) in rows {
+        if place(bytes, 0, *address) != Ok(register(*n)) {
+            return Some(*address);
+        }
     }
-    for (address, k, offset, length, n) in PARTS {
-        assert!(rt;
-            piece(pieces, 0, *address, *k) == Ok(part(*offset, *length, *n)),
-            "{address}"
-        );
+    None
+}
+
+/// The first address of a row with another piece.
+fn other_part(bytes: &[u8], rows: &[(u64, u32, u32, u32, u32)]) -> Option<u64> {
+    for (address, k, offset, length, n) in rows {
+        if piece(bytes, 0, *address, *k) != Ok(part(*offset, *length, *n)) {
+            return Some(*address);
+        }
     }
-    // The entry of a slot at an offset that no frame of a text reaches
+    None
+}
+
+/// Whether these are the bytes of the entry of a slot at an offset that no frame of a text reaches.
+fn is_slot_entry(alloc: Global, wanted: &[u8]) -> Result<bool, AllocError> {
     let slot = Range {
         lo: 200,
         hi: 300,
         location: Location::Whole(Place::Slot(SlotId(2024))),
     };
-    let mut bytes = Vec::new(rt.alloc());
+    let mut bytes = Vec::new(alloc);
     push_entry(&mut bytes, &slot)?;
-    assert_eq!(rt;
-        bytes.as_slice(),
-        [4, 0xc8, 1, 0xac, 2, 3, 0x72, 0xe8, 0x0f].as_slice()
+    Ok(bytes.as_slice() == wanted)
+}
+
+#[test]
+fn lists_are_read(rt: HostRuntime) -> Result<(), Fail> {
+    assert!(rt;
+        list_count(&ONE) == Ok(1) && list_count(&TWO) == Ok(2) && list_count(&PIECES) == Ok(1)
     );
+    assert_eq!(rt; other_whole(&PIECES, WHOLE), None);
+    assert_eq!(rt; other_part(&PIECES, PARTS), None);
+    Ok(())
+}
+
+#[test]
+fn damaged_lists_are_not_read(rt: HostRuntime) -> Result<(), Fail> {
+    assert_eq!(rt; other_fault(rt.alloc(), &ONE, DAMAGED)?, None);
+    assert_eq!(rt; other_turn(rt.alloc(), &ONE, TURNED)?, None);
+    assert_eq!(rt; other_turn(rt.alloc(), &PIECES, TURNED_PIECES)?, None);
+    assert_eq!(rt; other_beyond(BEYOND), None);
+    // each proper prefix is wrong from its length on
+    assert_eq!(rt; other_prefix(&TWO), None);
+    Ok(())
+}
+
+#[test]
+fn entries_are_written(rt: HostRuntime) -> Result<(), Fail> {
+    let wanted = [4, 0xc8, 1, 0xac, 2, 3, 0x72, 0xe8, 0x0f];
+    assert!(rt; is_slot_entry(rt.alloc(), wanted.as_slice())?);
     Ok(())
 }

@@ -1,7 +1,7 @@
 //! The value numbers at block starts, over all paths to them.
 
 use crate::text::{framed_of, function_of, register, variable};
-use std::alloc::Global;
+use std::alloc::{AllocError, Global};
 use std::fmt::Write;
 use std::test::Fail;
 use value_live_ins::values::{MachineValues, solve};
@@ -159,6 +159,22 @@ fn class_of(things: &[Tracked], entry: &BlockEntry, wanted: &Tracked) -> Option<
     None
 }
 
+/// The place of the first that has a class, from 1 on, or 0 where there is none. The class is put behind the others.
+fn place_of(classes: &mut Vec<u32>, class: u32) -> Result<usize, AllocError> {
+    let mut first = classes.len();
+    for (i, seen) in classes.as_slice().iter().enumerate() {
+        if *seen == class && i < first {
+            first = i;
+        }
+    }
+    classes.push(class)?;
+    Ok(if class == 0 {
+        0
+    } else {
+        first.saturating_add(1)
+    })
+}
+
 /// Writes the classes of things at an entry.
 fn write_classes(
     shown: &mut String,
@@ -169,21 +185,22 @@ fn write_classes(
 ) -> Result<(), Fail> {
     for thing in wanted {
         let (class, given) = class_of(things, entry, thing).ok_or("a thing")?;
-        let mut first = classes.len();
-        for (i, seen) in classes.as_slice().iter().enumerate() {
-            if *seen == class && i < first {
-                first = i;
-            }
-        }
-        classes.push(class)?;
-        let first = if class == 0 {
-            0
-        } else {
-            first.saturating_add(1)
-        };
+        let first = place_of(classes, class)?;
         write!(shown, "{first}{} ", if given { "+" } else { "-" })?;
     }
     Ok(())
+}
+
+/// Writes them where none was written before.
+fn write_entry(
+    alloc: Global,
+    shown: &mut String,
+    things: &[Tracked],
+    entry: &BlockEntry,
+    wanted: &[Tracked],
+) -> Result<(), Fail> {
+    let mut classes = Vec::new(alloc);
+    write_classes(shown, &mut classes, things, entry, wanted)
 }
 
 /// Writes them at the start of each block.
@@ -195,14 +212,24 @@ fn write_all_classes(
 ) -> Result<(), Fail> {
     for entry in values.entries.as_slice() {
         if entry.reached {
-            let mut classes = Vec::new(alloc);
-            write_classes(shown, &mut classes, values.things.as_slice(), entry, wanted)?;
+            write_entry(alloc, shown, values.things.as_slice(), entry, wanted)?;
         } else if entry.classes.is_empty() && entry.given.is_empty() {
             shown.push_str("unreached")?;
         }
         shown.push_str("; ")?;
     }
     Ok(())
+}
+
+/// What is written of values.
+fn shown_classes(
+    alloc: Global,
+    values: &MachineValues,
+    wanted: &[Tracked],
+) -> Result<String, Fail> {
+    let mut shown = String::new(alloc);
+    write_all_classes(alloc, &mut shown, values, wanted)?;
+    Ok(shown)
 }
 
 /// What is written of a body.
@@ -214,9 +241,7 @@ fn classes_in(
 ) -> Result<String, Fail> {
     let wanted = tracked(alloc, registers, variables)?;
     let values = values_of(alloc, body)?;
-    let mut shown = String::new(alloc);
-    write_all_classes(alloc, &mut shown, &values, wanted.as_slice())?;
-    Ok(shown)
+    shown_classes(alloc, &values, wanted.as_slice())
 }
 
 /// How many blocks and things a body has, and how many sweeps it took.
@@ -294,6 +319,20 @@ fn ladder(alloc: Global) -> Result<String, Fail> {
     Ok(body)
 }
 
+/// How many sweeps the blocks whose order in the text is against the path take.
+fn sweeps_of_upward(alloc: Global) -> Result<u64, Fail> {
+    let body = upward(alloc)?;
+    let (_, _, sweeps) = sweeps_in(alloc, body.as_str())?;
+    Ok(sweeps)
+}
+
+/// How many sweeps the blocks whose edges are against the paths take.
+fn sweeps_of_ladder(alloc: Global) -> Result<u64, Fail> {
+    let body = ladder(alloc)?;
+    let (_, _, sweeps) = sweeps_in(alloc, body.as_str())?;
+    Ok(sweeps)
+}
+
 #[test]
 fn paths_join(rt: HostRuntime) -> Result<(), Fail> {
     let alloc = rt.alloc();
@@ -302,12 +341,8 @@ fn paths_join(rt: HostRuntime) -> Result<(), Fail> {
     // Each sweep takes one register away from the value.
     assert!(rt; takes_many_sweeps(alloc, CHAIN)? && takes_many_sweeps(alloc, MARKED_CHAIN)?);
     // Where no path comes back, one sweep by the order of paths finds all, and a second one sees that.
-    let body = upward(alloc)?;
-    let (_, _, sweeps) = sweeps_in(alloc, body.as_str())?;
-    assert_eq!(rt; sweeps, 2);
+    assert!(rt; sweeps_of_upward(alloc)? == 2);
     // Sweeps in both directions take what is known along all edges against the order at once: in one alone there are 64.
-    let body = ladder(alloc)?;
-    let (_, _, sweeps) = sweeps_in(alloc, body.as_str())?;
-    assert!(rt; sweeps < 8, "{sweeps} sweeps");
+    assert!(rt; sweeps_of_ladder(alloc)? < 8);
     Ok(())
 }

@@ -1,10 +1,9 @@
 //! Tests that only calls within the program show: value numbers at joins and at points, queries of them, live-in values
-//! of places, the locations of parts, and functions that are compiled one at a time. Location lists of texts are in the
-//! rows of `test_program`.
+//! of places, and the locations of parts. Location lists of texts are in the rows of `test_program`.
 #![tactic(auto)]
 
 #[cfg(test)]
-mod compiled;
+mod chains;
 #[cfg(test)]
 mod joins;
 #[cfg(test)]

@@ -1,6 +1,8 @@
 //! The pairs that location lists need tracked.
 
 use crate::text::{framed_of, function_of};
+use mir_func::framed::Framed;
+use mir_substitution::substitutions::Substitutions;
 use std::alloc::Global;
 use std::test::Fail;
 use value_live_ins::values::{solve, solve_for_lists};
@@ -48,14 +50,30 @@ const BODIES: &[(&str, u64)] = &[
     ),
 ];
 
+/// How many things are tracked.
+fn tracked(alloc: Global, framed: &Framed, subs: &Substitutions) -> Result<u64, Fail> {
+    let values = solve(alloc, framed, subs)?;
+    Ok(values.things.len() as u64)
+}
+
+/// How many things are tracked for location lists.
+fn tracked_for_lists(alloc: Global, framed: &Framed, subs: &Substitutions) -> Result<u64, Fail> {
+    let values = solve_for_lists(alloc, framed, subs)?;
+    Ok(values.things.len() as u64)
+}
+
 /// How many fewer things are tracked for location lists.
+fn fewer_of(alloc: Global, framed: &Framed, subs: &Substitutions) -> Result<u64, Fail> {
+    let all = tracked(alloc, framed, subs)?;
+    let listed = tracked_for_lists(alloc, framed, subs)?;
+    Ok(all.saturating_sub(listed))
+}
+
+/// The same of a body's function.
 fn fewer(alloc: Global, body: &str) -> Result<u64, Fail> {
     let parsed = function_of(alloc, body)?;
     let framed = framed_of(alloc, &parsed)?;
-    let all = solve(alloc, &framed, &parsed.subs)?;
-    let listed = solve_for_lists(alloc, &framed, &parsed.subs)?;
-    let all = all.things.len() as u64;
-    Ok(all.saturating_sub(listed.things.len() as u64))
+    fewer_of(alloc, &framed, &parsed.subs)
 }
 
 /// The number of the first row of which other pairs are tracked.

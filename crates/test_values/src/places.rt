@@ -13,8 +13,9 @@ use std::collections::HashMap;
 use std::test::Fail;
 use value_solver::entry::{Bits, BlockEntry, Numbers};
 use value_solver::tracked::Tracked;
-use value_tracker::index::{index_of, number_class};
+use value_tracker::index::{TrackedIndex, index_of, number_class};
 use value_tracker::location_tracker::{LocationTracker, PLACES};
+use value_tracker::part_list::PartList;
 use value_tracker::pass::Block;
 use value_tracker::start::settle;
 
@@ -74,34 +75,58 @@ fn pass(held: &mut LocationTracker, block: &Block, kind: &ItemKind) -> Result<()
     Ok(held.pass(block, kind)?)
 }
 
-/// The class of a number at an entry where 7 has class 3 on every path, and 9 class 5 on some.
-fn class_of(alloc: Global, number: u64) -> Result<usize, Fail> {
-    let index = index_of(alloc, &[Tracked::Number(7), Tracked::Number(9)])?;
-    let entry = BlockEntry {
+/// An entry where the first of two things has class 3 on every path, and the second class 5 on some.
+fn entry(alloc: Global) -> Result<BlockEntry, Fail> {
+    let classes = Numbers::from_slice(alloc, &[3, 5])?;
+    let given = Bits::from_slice(alloc, &[true, false])?;
+    Ok(BlockEntry {
         reached: true,
-        classes: Numbers::from_slice(alloc, &[3, 5])?,
-        given: Bits::from_slice(alloc, &[true, false])?,
-    };
-    let settled = settle(alloc, &entry, 2)?;
+        classes,
+        given,
+    })
+}
+
+/// The class of a number there, where these are the two.
+fn class_at(
+    alloc: Global,
+    entry: &BlockEntry,
+    index: &TrackedIndex,
+    number: u64,
+) -> Result<usize, Fail> {
+    let settled = settle(alloc, entry, 2)?;
     if settled.as_slice() != [3, 0].as_slice() {
         return Err(Fail::from("other classes are settled"));
     }
-    Ok(number_class(&index, settled.as_slice(), number))
+    Ok(number_class(index, settled.as_slice(), number))
+}
+
+/// The class of a number at an entry where 7 has class 3 on every path, and 9 class 5 on some.
+fn class_of(alloc: Global, number: u64) -> Result<usize, Fail> {
+    let entry = entry(alloc)?;
+    let index = index_of(alloc, &[Tracked::Number(7), Tracked::Number(9)])?;
+    class_at(alloc, &entry, &index, number)
+}
+
+/// Sets the class of x10 where all places have one.
+fn put_in_x10(held: &mut LocationTracker, class: usize) -> Result<(), Fail> {
+    if held.places.len() != PLACES {
+        return Err(Fail::from("another number of places"));
+    }
+    held.put(register(10)?, class);
+    Ok(())
 }
 
 /// All places have class 5, but x10 has 6, and three parts have classes of their own.
 fn held(alloc: Global) -> Result<LocationTracker, Fail> {
-    let x10 = register(10)?;
+    let places = vec![in alloc; 5; PLACES]?;
+    let parts = vec![in alloc; 1, 2, 3]?;
     let mut held = LocationTracker {
-        places: vec![in alloc; 5; PLACES]?,
+        places,
         pairs: HashMap::new(alloc),
-        parts: vec![in alloc; 1, 2, 3]?,
+        parts,
         next: 100,
     };
-    if held.places.len() != PLACES {
-        return Err(Fail::from("another number of places"));
-    }
-    held.put(x10, 6);
+    put_in_x10(&mut held, 6)?;
     Ok(held)
 }
 
@@ -127,19 +152,29 @@ fn other_classes(
     Ok(None)
 }
 
-/// The same in a block without numbers, whose parts are bytes 0 to 3, 4 to 7 and 2 to 5 of variable 4.
-fn other_classes_in_block(alloc: Global, rows: &[Row]) -> Result<Option<usize>, Fail> {
-    let variables = [part(4, 0, 4), part(4, 4, 4), part(4, 2, 4)];
+/// The same in a block without numbers, with these parts.
+fn other_classes_of(
+    alloc: Global,
+    variables: &PartList,
+    rows: &[Row],
+) -> Result<Option<usize>, Fail> {
     let subs = Substitutions::new(alloc);
     let index = index_of(alloc, &[])?;
+    let mut held = held(alloc)?;
     let block = Block {
         index: &index,
         settled: &[],
-        variables: variables.as_slice(),
+        variables,
         subs: &subs,
     };
-    let mut held = held(alloc)?;
     other_classes(alloc, &mut held, &block, rows)
+}
+
+/// The same where the parts are bytes 0 to 3, 4 to 7 and 2 to 5 of variable 4.
+fn other_classes_in_block(alloc: Global, rows: &[Row]) -> Result<Option<usize>, Fail> {
+    let parts = vec![in alloc; part(4, 0, 4), part(4, 4, 4), part(4, 2, 4)]?;
+    let variables = PartList::new(alloc, parts)?;
+    other_classes_of(alloc, &variables, rows)
 }
 
 #[test]

@@ -115,7 +115,7 @@ fn answers_by(
     }
     let place = Place::Register(register(in_register)?);
     let values = Values {
-        variables: known.variables.as_slice(),
+        variables: &known.variables,
         things: known.things.as_slice(),
         entries: known.entries.as_slice(),
         subs,
@@ -145,6 +145,18 @@ fn other_answers(
 }
 
 /// The same, where these pairs are asked for.
+fn other_asking_of(
+    alloc: Global,
+    framed: &Framed,
+    subs: &Substitutions,
+    asked: &[OperandPair],
+    rows: &[Answers],
+) -> Result<Option<usize>, Fail> {
+    let known = solve_asking(alloc, framed, subs, asked)?;
+    other_answers(alloc, framed, &known, subs, rows)
+}
+
+/// The same of the first function.
 fn other_asking(
     alloc: Global,
     asked: &[OperandPair],
@@ -152,8 +164,7 @@ fn other_asking(
 ) -> Result<Option<usize>, Fail> {
     let parsed = function_of(alloc, COPIES)?;
     let framed = framed_of(alloc, &parsed)?;
-    let known = solve_asking(alloc, &framed, &parsed.subs, asked)?;
-    other_answers(alloc, &framed, &known, &parsed.subs, rows)
+    other_asking_of(alloc, &framed, &parsed.subs, asked, rows)
 }
 
 /// Whether variable 4 is in a register before an item, or nowhere where the number is 0.
@@ -171,7 +182,7 @@ fn is_first(
     requires for_all { length known.now.entries ≡ length framed.now.blocks }
 {
     let values = Values {
-        variables: known.variables.as_slice(),
+        variables: &known.variables,
         things: known.things.as_slice(),
         entries: known.entries.as_slice(),
         subs,
@@ -207,11 +218,22 @@ fn other_registers(
     Ok(None)
 }
 
+/// The same of a function.
+fn other_registers_of(
+    alloc: Global,
+    framed: &Framed,
+    subs: &Substitutions,
+    rows: &[(usize, usize, u32)],
+) -> Result<Option<usize>, Fail> {
+    let known = solve(alloc, framed, subs)?;
+    other_registers(alloc, framed, &known, subs, rows)
+}
+
+/// The same of the second function.
 fn other_places(alloc: Global, rows: &[(usize, usize, u32)]) -> Result<Option<usize>, Fail> {
     let parsed = function_of(alloc, JOIN)?;
     let framed = framed_of(alloc, &parsed)?;
-    let known = solve(alloc, &framed, &parsed.subs)?;
-    other_registers(alloc, &framed, &known, &parsed.subs, rows)
+    other_registers_of(alloc, &framed, &parsed.subs, rows)
 }
 
 /// How many class numbers are kept.
@@ -225,8 +247,13 @@ fn kept_numbers(alloc: Global) -> Result<u64, Fail> {
 fn generated_numbers(alloc: Global) -> Result<(u64, u64), Fail> {
     let f = generate(alloc, 0, 512)?;
     let framed = with_frame(alloc, &f)?;
+    numbers_of(alloc, &framed)
+}
+
+/// The same of a function.
+fn numbers_of(alloc: Global, framed: &Framed) -> Result<(u64, u64), Fail> {
     let subs = Substitutions::new(alloc);
-    let known = solve(alloc, &framed, &subs)?;
+    let known = solve(alloc, framed, &subs)?;
     let blocks = known.entries.len() as u64;
     let most = blocks
         .saturating_mul(known.things.len() as u64)

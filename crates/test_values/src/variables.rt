@@ -22,11 +22,9 @@ fn pieces(alloc: Global, pieces: &[Part]) -> Result<Option<Location>, Fail> {
     Ok(Some(Location::Parts(Parts::from_slice(alloc, pieces)?)))
 }
 
-#[test]
-fn variables_are_found(rt: HostRuntime) -> Result<(), Fail> {
-    let alloc = rt.alloc();
-    wanted_locations_give_parts();
-    // The upper half of variable 4 is marked first, and bytes 2 to 5 of variable 8 overlap its bytes 0 to 3.
+/// The location of the variable at an index: of variables 6, 4, 5, 8 and 9. The upper half of variable 4 is marked first,
+/// and bytes 2 to 5 of variable 8 overlap its bytes 0 to 3.
+fn found(alloc: Global, index: usize) -> Result<Option<Location>, Fail> {
     let parts = [
         part(4, 4, 4),
         variable(6),
@@ -51,32 +49,54 @@ fn variables_are_found(rt: HostRuntime) -> Result<(), Fail> {
         variable(9),
     ];
     let groups = groups(alloc, parts.as_slice(), variables.as_slice())?;
-    let low = Part {
-        offset: 0,
-        length: 4,
-        place: Place::Slot(SlotId(8)),
-    };
-    let high = Part {
-        offset: 4,
-        length: 4,
-        place: Place::Const(7),
-    };
-    let first = Part {
-        offset: 0,
-        length: 4,
-        place: Place::Const(2),
-    };
-    let wanted = [
-        Some(Location::Whole(Place::Slot(SlotId(16)))),
-        pieces(alloc, [low, high].as_slice())?,
-        None,
-        pieces(alloc, [first].as_slice())?,
-        None,
-    ];
-    assert_eq!(rt; groups.len(), 5);
-    for k in 0..5 {
-        let found = location(alloc, &groups[k], places.as_slice())?;
-        assert!(rt; is_at(&found, &wanted[k]), "variable {k}");
+    match groups.get(index) {
+        Some(group) => Ok(location(alloc, group, places.as_slice())?),
+        None => Err(Fail::from("a group")),
     }
+}
+
+/// A part in a place.
+fn at(offset: u32, place: Place) -> Part {
+    Part {
+        offset,
+        length: 4,
+        place,
+    }
+}
+
+/// Where that variable is.
+fn wanted(alloc: Global, index: usize) -> Result<Option<Location>, Fail> {
+    match index {
+        0 => Ok(Some(Location::Whole(Place::Slot(SlotId(16))))),
+        1 => pieces(
+            alloc,
+            &[at(0, Place::Slot(SlotId(8))), at(4, Place::Const(7))],
+        ),
+        3 => pieces(alloc, &[at(0, Place::Const(2))]),
+        _ => Ok(None),
+    }
+}
+
+/// Whether that variable is found there.
+fn is_found(alloc: Global, index: usize) -> Result<bool, Fail> {
+    let wanted = wanted(alloc, index)?;
+    let found = found(alloc, index)?;
+    Ok(is_at(&found, &wanted))
+}
+
+/// The index of the first variable that is found elsewhere.
+fn other_variable(alloc: Global) -> Result<Option<usize>, Fail> {
+    for index in 0..5 {
+        if !is_found(alloc, index)? {
+            return Ok(Some(index));
+        }
+    }
+    Ok(None)
+}
+
+#[test]
+fn variables_are_found(rt: HostRuntime) -> Result<(), Fail> {
+    wanted_locations_give_parts();
+    assert_eq!(rt; other_variable(rt.alloc())?, None);
     Ok(())
 }

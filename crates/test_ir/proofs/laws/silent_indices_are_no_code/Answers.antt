@@ -1,7 +1,7 @@
 -- Two functions of one no-operation: in the one its block has silent index 1, in the other 2. The rule takes it out of the
 -- one alone.
 use Rattle.std.proofs.Common.{◌≡◌, ℕ, [], ◌∷◌, length, None, refl, ap, arith}
-use Rattle.std.specs.Prelude.{pos}
+use Rattle.std.specs.Prelude.{pos, false}
 use Rattle.rv64_instr.specs.declared.op.Op.TheVariants.{Immediate}
 use Rattle.rv64_instr.specs.declared.op.ImmediateOp.TheVariants.{Addi}
 use Rattle.rv64_instr.specs.declared.operand.Operand.TheVariants.{Def, Use, Imm}
@@ -15,7 +15,7 @@ use Rattle.test_ir.proofs.laws.silent_indices_are_no_code.Goals as goal
 
 abbrev nop : Item
 nop = record {
-  kind = Code (record { op = Immediate Addi; operands = Def 0 ∷ Use 0 ∷ Imm (pos 0) ∷ [] }) None;
+  kind = Code (record { op = Immediate Addi; operands = Def 0 ∷ Use 0 ∷ Imm (pos 0) ∷ []; volatile = false }) None;
   origin = Kept (record { block = 0; item = 0 });
   loc = Absent;
 }

@@ -1,6 +1,7 @@
 //! What virtual registers get, from live intervals and masks of blocked registers.
 
 use rv64_instr::reg::{self, Reg, Registers};
+use scan_allocation::assignment::RegisterAssignment;
 use scan_allocation::order::order_without;
 use scan_allocation::walk::walk;
 use scan_intervals::blocked::BlockedRegisters;
@@ -96,32 +97,49 @@ fn intervals(alloc: Global, spans: &[(u32, u32, u32)]) -> Result<LiveIntervals, 
     Ok(list)
 }
 
-/// The numbers of the registers that a row's intervals get.
-fn given(alloc: Global, row: &Row) -> Result<Vec<u32>, Fail> {
-    let blocked = BlockedRegisters {
-        masks: Vec::from_slice(alloc, row.masks)?,
-    };
-    let reserve = registers(alloc, row.reserve)?;
-    let scratch = registers(alloc, row.scratch)?;
-    let order = order_without(alloc, reserve.as_slice(), scratch.as_slice())?;
-    let list = intervals(alloc, row.intervals)?;
-    let assignments = walk(alloc, &blocked, order.as_slice(), list.as_slice())?;
-    let mut numbers = Vec::new(alloc);
-    for assignment in assignments.as_slice() {
-        numbers.push(match assignment.given {
+/// Whether assignments give registers with these numbers, or none where the number is 0.
+fn are_numbered(assignments: &[RegisterAssignment], numbers: &[u32]) -> bool {
+    for (assignment, number) in assignments.iter().zip(numbers) {
+        let given = match assignment.given {
             Some(r) => r.number(),
             None => 0,
-        })?;
+        };
+        if given != *number {
+            return false;
+        }
     }
-    Ok(numbers)
+    assignments.len() == numbers.len()
+}
+
+/// Whether a row's intervals get its registers, without these.
+fn are_given(alloc: Global, row: &Row, reserve: &[Reg], scratch: &[Reg]) -> Result<bool, Fail> {
+    let list = intervals(alloc, row.intervals)?;
+    let order = order_without(alloc, reserve, scratch)?;
+    let masks = Vec::from_slice(alloc, row.masks)?;
+    let blocked = BlockedRegisters { masks };
+    let assignments = walk(alloc, &blocked, order.as_slice(), list.as_slice())?;
+    Ok(are_numbered(assignments.as_slice(), row.wanted))
+}
+
+/// Whether a row's intervals get its registers.
+fn is_as_shown(alloc: Global, row: &Row) -> Result<bool, Fail> {
+    let reserve = registers(alloc, row.reserve)?;
+    let scratch = registers(alloc, row.scratch)?;
+    are_given(alloc, row, reserve.as_slice(), scratch.as_slice())
+}
+
+/// What the first row shows that isn't so.
+fn other_row(alloc: Global, rows: &[Row]) -> Result<Option<&'static str>, Fail> {
+    for row in rows {
+        if !is_as_shown(alloc, row)? {
+            return Ok(Some(row.shows));
+        }
+    }
+    Ok(None)
 }
 
 #[test]
 fn intervals_get_what_the_rows_say(rt: HostRuntime) -> Result<(), Fail> {
-    for row in ROWS {
-        let numbers = given(rt.alloc(), row)?;
-        let shows = row.shows;
-        assert_eq!(rt; numbers.as_slice(), row.wanted, "{shows}");
-    }
+    assert_eq!(rt; other_row(rt.alloc(), ROWS)?, None);
     Ok(())
 }

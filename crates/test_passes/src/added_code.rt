@@ -14,7 +14,6 @@ use rv64_instr::operand::{Operand, Operands};
 use rv64_instr::reg::Reg;
 use scan_allocation::added::adds_virtual;
 use std::alloc::Global;
-use std::test::Fail;
 
 /// A row: the number of the register that code sets, whether a pass added the code, and the answer.
 struct Row {
@@ -58,11 +57,11 @@ fn push(items: &mut Items, instr: Instr, origin: Origin) -> Option<()> {
     items.push(Item { kind, origin, loc }).ok()
 }
 
-/// A row's function: a copy of x10, and the return.
-fn function(alloc: Global, row: &Row) -> Option<Func> {
-    let id = BlockId(0);
-    let first = Pos { block: id, item: 0 };
-    let second = Pos { block: id, item: 1 };
+/// The items of a row: a copy of x10, and the return.
+fn items(alloc: Global, row: &Row) -> Option<Items> {
+    let block = BlockId(0);
+    let first = Pos { block, item: 0 };
+    let second = Pos { block, item: 1 };
     let origin = if row.added {
         Origin::Before(first)
     } else {
@@ -70,19 +69,26 @@ fn function(alloc: Global, row: &Row) -> Option<Func> {
     };
     let mut items = Items::new(alloc);
     push(&mut items, copy(alloc, row.register)?, origin)?;
-    push(
-        &mut items,
-        Instr::new(Op::PseudoRet, Operands::new(alloc))?,
-        Origin::Kept(second),
-    )?;
+    let back = Instr::new(Op::PseudoRet, Operands::new(alloc))?;
+    push(&mut items, back, Origin::Kept(second))?;
+    Some(items)
+}
+
+/// The block with a row's items.
+fn blocks(alloc: Global, row: &Row) -> Option<Blocks> {
+    let block = Block {
+        id: BlockId(0),
+        items: items(alloc, row)?,
+        source_end: 2,
+    };
     let mut blocks = Blocks::new(alloc);
-    blocks
-        .push(Block {
-            id,
-            items,
-            source_end: 2,
-        })
-        .ok()?;
+    blocks.push(block).ok()?;
+    Some(blocks)
+}
+
+/// A row's function.
+fn function(alloc: Global, row: &Row) -> Option<Func> {
+    let blocks = blocks(alloc, row)?;
     Func::new(
         alloc,
         List::new(alloc),
@@ -93,12 +99,25 @@ fn function(alloc: Global, row: &Row) -> Option<Func> {
     .ok()
 }
 
-#[test]
-fn added_code_names_what_the_rows_say(rt: HostRuntime) -> Result<(), Fail> {
-    for row in ROWS {
-        let f = function(rt.alloc(), row).ok_or("a function")?;
-        let shows = row.shows;
-        assert_eq!(rt; adds_virtual(&f), row.wanted, "{shows}");
+/// Whether the answer is a row's.
+fn is_as_shown(alloc: Global, row: &Row) -> bool {
+    match function(alloc, row) {
+        Some(f) => adds_virtual(&f) == row.wanted,
+        None => false,
     }
-    Ok(())
+}
+
+/// What the first row shows that isn't so.
+fn other_row(alloc: Global, rows: &[Row]) -> Option<&'static str> {
+    for row in rows {
+        if !is_as_shown(alloc, row) {
+            return Some(row.shows);
+        }
+    }
+    None
+}
+
+#[test]
+fn added_code_names_what_the_rows_say(rt: HostRuntime) {
+    assert_eq!(rt; other_row(rt.alloc(), ROWS), None);
 }

@@ -7,6 +7,7 @@ use frame_lowering::lower::lower;
 use frame_lowering::physical::is_physical;
 use listing_function::laws::listings_are_printable;
 use listing_text::laws::one_reading;
+use mir_func::func::Func;
 use read_program::closing::Parsed;
 use read_program::program::read_program;
 use std::alloc::Global;
@@ -76,12 +77,30 @@ fn are_values(values: &MachineValues) -> bool {
         && values.sweeps == 2
 }
 
-fn has_layout_and_values(alloc: Global, parsed: &Parsed) -> Result<bool, Fail> {
-    if !is_return(&code_of(alloc, &parsed.func, 16)?) || !is_physical(&parsed.func) {
+fn has_layout(alloc: Global, f: &Func) -> Result<bool, Fail> {
+    let code = code_of(alloc, f, 16)?;
+    Ok(is_return(&code))
+}
+
+fn has_values(alloc: Global, parsed: &Parsed) -> Result<bool, Fail> {
+    if !is_physical(&parsed.func) {
         return Ok(false);
     }
-    let values = solve(alloc, &lower(alloc, &parsed.func)?, &parsed.subs)?;
+    let framed = lower(alloc, &parsed.func)?;
+    let values = solve(alloc, &framed, &parsed.subs)?;
     Ok(are_values(&values))
+}
+
+/// Whether the function of the text has the layout and the values of a return.
+fn has_layout_and_values(alloc: Global, text: &str) -> Result<bool, Fail> {
+    if text.len() >= 100 {
+        return Err(Fail::from("a long text"));
+    }
+    let program = read_program(alloc, false, text.as_bytes())?;
+    match program.functions.as_slice() {
+        [parsed] => Ok(has_layout(alloc, &parsed.func)? && has_values(alloc, parsed)?),
+        _ => Ok(false),
+    }
 }
 
 #[test]
@@ -89,9 +108,6 @@ fn a_return_has_a_layout_and_values(rt: HostRuntime) -> Result<(), Fail> {
     one_layout();
     one_reading();
     listings_are_printable();
-    assert!(rt; RETURN.len() < 100);
-    let program = read_program(rt.alloc(), false, RETURN.as_bytes())?;
-    let parsed = program.functions.as_slice().first().ok_or("a function")?;
-    assert!(rt; has_layout_and_values(rt.alloc(), parsed)?);
+    assert!(rt; has_layout_and_values(rt.alloc(), RETURN)?);
     Ok(())
 }

@@ -88,7 +88,20 @@ fn has_instances(alloc: Global, parsed: &Parsed, meta: &Metadata) -> Result<bool
         source: &parsed.func,
         code: &code,
     };
-    Ok(are_instances(&inlined_code(alloc, &function, meta)?))
+    let inlined = inlined_code(alloc, &function, meta)?;
+    Ok(are_instances(&inlined))
+}
+
+/// Whether the function of a text has the instances of the table.
+fn has_instances_of_text(alloc: Global, text: &str) -> Result<bool, Fail> {
+    if text.len() >= 1_000 {
+        return Err(Fail::from("a long text"));
+    }
+    let program = read_program(alloc, false, text.as_bytes())?;
+    match program.functions.as_slice() {
+        [parsed] => has_instances(alloc, parsed, &program.meta),
+        _ => Ok(false),
+    }
 }
 
 #[test]
@@ -96,9 +109,6 @@ fn instances_have_their_parents_and_ranges(rt: HostRuntime) -> Result<(), Fail> 
     ranges_are_of_inlined_code();
     ranges_ascend();
     each_call_has_an_instance();
-    assert!(rt; TEXT.len() < 1000);
-    let program = read_program(rt.alloc(), false, TEXT.as_bytes())?;
-    let parsed = program.functions.as_slice().first().ok_or("a function")?;
-    assert!(rt; has_instances(rt.alloc(), parsed, &program.meta)?);
+    assert!(rt; has_instances_of_text(rt.alloc(), TEXT)?);
     Ok(())
 }
