@@ -10,18 +10,19 @@ use Rattle.cli_numbers.specs.declared.generation.Generation.{Generation}
 use Rattle.cli_numbers.specs.Numbers.{IsGeneration}
 use Rattle.cli.specs.declared.options.Options.{Options}
 use Rattle.cli.specs.declared.option.CommandOption.{CommandOption}
-use Rattle.cli.specs.declared.option.CommandOption.TheVariants.{Passes, Reserve, Arguments, Answers, Frame, Inline, Linked, Symbols}
+use Rattle.cli.specs.declared.option.CommandOption.TheVariants.{Passes, Reserve, Arguments, Answers, Frame, Inline, Linked, Linkable, FloatAbi, Symbols}
 use Rattle.cli.specs.Options.{none_given, IsWith, GivesOption, GiveOptions}
 use Rattle.cli.proofs.OptionWords.{the_option}
 use Rattle.cli.specs.declared.command.Command.{Command}
 use Rattle.cli.specs.declared.command.Command.TheVariants.{Compile, Listing, Report, Object, Run, Strip, Gen, SelfTest}
 use Rattle.cli.specs.declared.command.PassPipeline.{PassPipeline}
 use Rattle.cli.specs.declared.command.CompilePlan.{CompilePlan}
+use Rattle.cli.specs.declared.command.ObjectPlan.{ObjectPlan}
 use Rattle.cli.specs.declared.command.RunPlan.{RunPlan}
 use Rattle.cli.specs.declared.command.TestPlan.{TestPlan}
 use Rattle.cli.specs.Command.{MAX_STEPS, IsPlanOf, GivesPlan, IsPlainPlan, GivesPlainPlan, IsCompileOf}
 use Rattle.cli.specs.Command.{GivesCompile, IsRunPlanOf, GivesSteps, GivesRun, GivesTestOf, GivesTest}
-use Rattle.cli.specs.Command.{IsWithin, IsCommand, AreWithin, strip_words, has_idle_symbols}
+use Rattle.cli.specs.Command.{IsWithin, IsCommand, AreWithin, strip_words, has_idle_symbols, has_object_words, IsObjectPlanOf, GivesObject}
 
 -- ---- one plan for words
 
@@ -36,6 +37,8 @@ one_next given (Answers values) a b ha hb = ha.1 ∙ sym hb.1
 one_next given Frame a b ha hb = ha.1 ∙ sym hb.1
 one_next given Inline a b ha hb = ha.1 ∙ sym hb.1
 one_next given Linked a b ha hb = ha.1 ∙ sym hb.1
+one_next given Linkable a b ha hb = ha.1 ∙ sym hb.1
+one_next given FloatAbi a b ha hb = ha.1 ∙ sym hb.1
 one_next given (Symbols pairs) a b ha hb = ha.1 ∙ sym hb.1
 
 one_more : (given : Options) (word : List ℕ) (a b : Options) → GivesOption given word a → GivesOption given word b → a ≡ b
@@ -75,6 +78,19 @@ one_compile : (words : List (List ℕ)) (c d : CompilePlan) → GivesCompile wor
 one_compile words c d hc hd =
     let same : hc.0 ≡ hd.0 = one_given words none_given hc.0 hd.0 hc.1 hd.1 in
     compile_by hd.0 c d (subst (λ (o : Options). IsCompileOf o c) same hc.2) hd.2
+
+object_by : (given : Options) (a b : ObjectPlan) → IsObjectPlanOf given a → IsObjectPlanOf given b → a ≡ b
+object_by given a b ha hb =
+    let passes : a.plan.passes ≡ b.plan.passes = ha.passes ∙ sym hb.passes in
+    let reserve : a.plan.reserve ≡ b.plan.reserve = ha.reserve ∙ sym hb.reserve in
+    let linked : a.plan.linked ≡ b.plan.linked = ha.linked ∙ sym hb.linked in
+    let form : a.form ≡ b.form = ha.form ∙ sym hb.form in
+    λ i. record { plan = record { passes = passes i; reserve = reserve i; linked = linked i }; form = form i }
+
+one_object : (words : List (List ℕ)) (a b : ObjectPlan) → GivesObject words a → GivesObject words b → a ≡ b
+one_object words a b ha hb =
+    let same : ha.0 ≡ hb.0 = one_given words none_given ha.0 hb.0 ha.1 hb.1 in
+    object_by hb.0 a b (subst (λ (o : Options). IsObjectPlanOf o a) same ha.2) hb.2
 
 run_by : (name : List ℕ) (count : ℕ) (given : Options) (r s : RunPlan) → IsRunPlanOf name count given r → IsRunPlanOf name count given s → r ≡ s
 run_by name count given r s hr hs =
@@ -208,7 +224,7 @@ by_name name words (Report p) (SelfTest u) e ha hb = absurd (omega (arith, e))
 by_name name words (Object p) (Compile q) e ha hb = absurd (omega (arith, e))
 by_name name words (Object p) (Listing q) e ha hb = absurd (omega (arith, e))
 by_name name words (Object p) (Report q) e ha hb = absurd (omega (arith, e))
-by_name name words (Object p) (Object q) e ha hb = ap (λ (x : PassPipeline). Object x) (one_plan words p q ha.1.0 hb.1.0)
+by_name name words (Object p) (Object q) e ha hb = ap (λ (x : ObjectPlan). Object x) (one_object words p q ha.1 hb.1)
 by_name name words (Object p) (Run s) e ha hb = absurd (omega (arith, e))
 by_name name words (Object p) (Strip m) e ha hb = absurd (omega (arith, e))
 by_name name words (Object p) (Gen h) e ha hb = absurd (omega (arith, e))
@@ -286,7 +302,7 @@ no_report name words is none (Strip l) h = let e : 316 ≡ 347 = sym (ap sign is
 no_report name words is none (Gen g) h = let e : 316 ≡ 305 = sym (ap sign is) ∙ ap sign h.0 in omega (arith, e)
 no_report name words is none (SelfTest t) h = let e : 316 ≡ 317 = sym (ap sign is) ∙ ap sign h.0 in omega (arith, e)
 
-pub no_object : (name : List ℕ) (words : List (List ℕ)) → name ≡ codes "object" → ((p : PassPipeline) → GivesPlainPlan words p → ⊥) →
+pub no_object : (name : List ℕ) (words : List (List ℕ)) → name ≡ codes "object" → ((p : ObjectPlan) → GivesObject words p → ⊥) →
     (c : Command) → IsCommand (name ∷ words) c → ⊥
 no_object name words is none (Compile p) h = let e : 307 ≡ 321 = sym (ap sign is) ∙ ap sign h.0 in omega (arith, e)
 no_object name words is none (Listing p) h = let e : 307 ≡ 318 = sym (ap sign is) ∙ ap sign h.0 in omega (arith, e)
@@ -383,6 +399,13 @@ pub no_steps_idle : (name word : List ℕ) (words : List (List ℕ)) (given : Op
 no_steps_idle name word words given give idle run h =
     let one : h.given ≡ given = one_given words none_given h.given given h.give give in
     let none : has_idle_symbols given ≡ false = ap has_idle_symbols (sym one) ∙ h.is.no_idle_symbols in cc
+
+-- nor do words with options of objects
+pub no_steps_object : (name word : List ℕ) (words : List (List ℕ)) (given : Options) → GiveOptions none_given words given →
+    has_object_words given ≡ true → (run : RunPlan) → GivesSteps name word words run → ⊥
+no_steps_object name word words given give asked run h =
+    let one : h.given ≡ given = one_given words none_given h.given given h.give give in
+    let none : has_object_words given ≡ false = ap has_object_words (sym one) ∙ h.is.no_object_words in cc
 
 -- words whose options ask for these runs ask for them too
 pub the_steps : (name named word : List ℕ) (words : List (List ℕ)) (count : ℕ) (given : Options) (found : RunPlan) → named ≡ name →

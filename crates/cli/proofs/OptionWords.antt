@@ -14,7 +14,7 @@ use Rattle.rv64_instr.specs.declared.symbol.Symbol.{Symbol}
 use Rattle.cli_numbers.specs.Symbols.{pair_text, CanBeGiven, IsAddressText}
 use Rattle.cli_numbers.proofs.SymbolTexts.{pairs_spelled}
 use Rattle.cli.specs.declared.option.CommandOption.{CommandOption}
-use Rattle.cli.specs.declared.option.CommandOption.TheVariants.{Passes, Reserve, Arguments, Answers, Frame, Inline, Linked, Symbols}
+use Rattle.cli.specs.declared.option.CommandOption.TheVariants.{Passes, Reserve, Arguments, Answers, Frame, Inline, Linked, Linkable, FloatAbi, Symbols}
 use Rattle.cli.specs.Options.{registers_text, numbers_text, symbols_text, word_of, IsAllowed, IsWordOf}
 
 -- ---- one option for a word
@@ -121,6 +121,57 @@ inline_symbols p = differ 2 105 115 (word_of Inline) (word_of (Symbols p)) refl 
 linked_symbols : (p : List (Symbol × ℕ)) → (word_of Linked ≡ word_of (Symbols p) → ⊥) × (word_of (Symbols p) ≡ word_of Linked → ⊥)
 linked_symbols p = differ 2 108 115 (word_of Linked) (word_of (Symbols p)) refl refl (omega arith)
 
+linkable_passes : (l : List PassKind) → (word_of Linkable ≡ word_of (Passes l) → ⊥) × (word_of (Passes l) ≡ word_of Linkable → ⊥)
+linkable_passes l = differ 2 108 112 (word_of Linkable) (word_of (Passes l)) refl refl (omega arith)
+
+linkable_reserve : (r : List ℕ) → (word_of Linkable ≡ word_of (Reserve r) → ⊥) × (word_of (Reserve r) ≡ word_of Linkable → ⊥)
+linkable_reserve r = differ 2 108 114 (word_of Linkable) (word_of (Reserve r)) refl refl (omega arith)
+
+arguments_linkable : (a : List ℕ) → (word_of (Arguments a) ≡ word_of Linkable → ⊥) × (word_of Linkable ≡ word_of (Arguments a) → ⊥)
+arguments_linkable a = differ 2 97 108 (word_of (Arguments a)) (word_of Linkable) refl refl (omega arith)
+
+answers_linkable : (a : List ℕ) → (word_of (Answers a) ≡ word_of Linkable → ⊥) × (word_of Linkable ≡ word_of (Answers a) → ⊥)
+answers_linkable a = differ 2 97 108 (word_of (Answers a)) (word_of Linkable) refl refl (omega arith)
+
+frame_linkable : (word_of Frame ≡ word_of Linkable → ⊥) × (word_of Linkable ≡ word_of Frame → ⊥)
+frame_linkable = differ 2 102 108 (word_of Frame) (word_of Linkable) refl refl (omega arith)
+
+inline_linkable : (word_of Inline ≡ word_of Linkable → ⊥) × (word_of Linkable ≡ word_of Inline → ⊥)
+inline_linkable = differ 2 105 108 (word_of Inline) (word_of Linkable) refl refl (omega arith)
+
+linkable_linked : (word_of Linkable ≡ word_of Linked → ⊥) × (word_of Linked ≡ word_of Linkable → ⊥)
+linkable_linked = differ 6 97 101 (word_of Linkable) (word_of Linked) refl refl (omega arith)
+
+linkable_symbols : (p : List (Symbol × ℕ)) → (word_of Linkable ≡ word_of (Symbols p) → ⊥) × (word_of (Symbols p) ≡ word_of Linkable → ⊥)
+linkable_symbols p = differ 2 108 115 (word_of Linkable) (word_of (Symbols p)) refl refl (omega arith)
+
+abi_passes : (l : List PassKind) → (word_of FloatAbi ≡ word_of (Passes l) → ⊥) × (word_of (Passes l) ≡ word_of FloatAbi → ⊥)
+abi_passes l = differ 2 97 112 (word_of FloatAbi) (word_of (Passes l)) refl refl (omega arith)
+
+abi_reserve : (r : List ℕ) → (word_of FloatAbi ≡ word_of (Reserve r) → ⊥) × (word_of (Reserve r) ≡ word_of FloatAbi → ⊥)
+abi_reserve r = differ 2 97 114 (word_of FloatAbi) (word_of (Reserve r)) refl refl (omega arith)
+
+abi_arguments : (a : List ℕ) → (word_of FloatAbi ≡ word_of (Arguments a) → ⊥) × (word_of (Arguments a) ≡ word_of FloatAbi → ⊥)
+abi_arguments a = differ 3 98 114 (word_of FloatAbi) (word_of (Arguments a)) refl refl (omega arith)
+
+abi_answers : (a : List ℕ) → (word_of FloatAbi ≡ word_of (Answers a) → ⊥) × (word_of (Answers a) ≡ word_of FloatAbi → ⊥)
+abi_answers a = differ 3 98 110 (word_of FloatAbi) (word_of (Answers a)) refl refl (omega arith)
+
+abi_frame : (word_of FloatAbi ≡ word_of Frame → ⊥) × (word_of Frame ≡ word_of FloatAbi → ⊥)
+abi_frame = differ 2 97 102 (word_of FloatAbi) (word_of Frame) refl refl (omega arith)
+
+abi_inline : (word_of FloatAbi ≡ word_of Inline → ⊥) × (word_of Inline ≡ word_of FloatAbi → ⊥)
+abi_inline = differ 2 97 105 (word_of FloatAbi) (word_of Inline) refl refl (omega arith)
+
+abi_linked : (word_of FloatAbi ≡ word_of Linked → ⊥) × (word_of Linked ≡ word_of FloatAbi → ⊥)
+abi_linked = differ 2 97 108 (word_of FloatAbi) (word_of Linked) refl refl (omega arith)
+
+abi_linkable : (word_of FloatAbi ≡ word_of Linkable → ⊥) × (word_of Linkable ≡ word_of FloatAbi → ⊥)
+abi_linkable = differ 2 97 108 (word_of FloatAbi) (word_of Linkable) refl refl (omega arith)
+
+abi_symbols : (p : List (Symbol × ℕ)) → (word_of FloatAbi ≡ word_of (Symbols p) → ⊥) × (word_of (Symbols p) ≡ word_of FloatAbi → ⊥)
+abi_symbols p = differ 2 97 115 (word_of FloatAbi) (word_of (Symbols p)) refl refl (omega arith)
+
 one_option : (a b : CommandOption) → IsAllowed a → IsAllowed b → word_of a ≡ word_of b → a ≡ b
 one_option (Passes l) (Passes m) ha hb e = ap (λ (x : List PassKind). Passes x) (one_list l m (ap (drop 9) e))
 one_option (Passes l) (Reserve r) ha hb e = absurd ((passes_reserve l r).0 e)
@@ -129,6 +180,8 @@ one_option (Passes l) (Answers a) ha hb e = absurd ((answers_passes a l).1 e)
 one_option (Passes l) Frame ha hb e = absurd ((frame_passes l).1 e)
 one_option (Passes l) Inline ha hb e = absurd ((inline_passes l).1 e)
 one_option (Passes l) Linked ha hb e = absurd ((linked_passes l).1 e)
+one_option (Passes l) Linkable ha hb e = absurd ((linkable_passes l).1 e)
+one_option (Passes l) FloatAbi ha hb e = absurd ((abi_passes l).1 e)
 one_option (Passes l) (Symbols p) ha hb e = absurd ((passes_symbols l p).0 e)
 one_option (Reserve r) (Passes l) ha hb e = absurd ((passes_reserve l r).1 e)
 one_option (Reserve r) (Reserve s) ha hb e = ap (λ (x : List ℕ). Reserve x) (one_reserve r s ha hb (ap (drop 10) e))
@@ -137,6 +190,8 @@ one_option (Reserve r) (Answers a) ha hb e = absurd ((answers_reserve a r).1 e)
 one_option (Reserve r) Frame ha hb e = absurd ((frame_reserve r).1 e)
 one_option (Reserve r) Inline ha hb e = absurd ((inline_reserve r).1 e)
 one_option (Reserve r) Linked ha hb e = absurd ((linked_reserve r).1 e)
+one_option (Reserve r) Linkable ha hb e = absurd ((linkable_reserve r).1 e)
+one_option (Reserve r) FloatAbi ha hb e = absurd ((abi_reserve r).1 e)
 one_option (Reserve r) (Symbols p) ha hb e = absurd ((reserve_symbols r p).0 e)
 one_option (Arguments a) (Passes l) ha hb e = absurd ((arguments_passes a l).0 e)
 one_option (Arguments a) (Reserve r) ha hb e = absurd ((arguments_reserve a r).0 e)
@@ -145,6 +200,8 @@ one_option (Arguments a) (Answers b) ha hb e = absurd ((answers_arguments b a).1
 one_option (Arguments a) Frame ha hb e = absurd ((arguments_frame a).0 e)
 one_option (Arguments a) Inline ha hb e = absurd ((arguments_inline a).0 e)
 one_option (Arguments a) Linked ha hb e = absurd ((arguments_linked a).0 e)
+one_option (Arguments a) Linkable ha hb e = absurd ((arguments_linkable a).0 e)
+one_option (Arguments a) FloatAbi ha hb e = absurd ((abi_arguments a).1 e)
 one_option (Arguments a) (Symbols p) ha hb e = absurd ((arguments_symbols a p).0 e)
 one_option (Answers a) (Passes l) ha hb e = absurd ((answers_passes a l).0 e)
 one_option (Answers a) (Reserve r) ha hb e = absurd ((answers_reserve a r).0 e)
@@ -153,6 +210,8 @@ one_option (Answers a) (Answers b) ha hb e = ap (λ (x : List ℕ). Answers x) (
 one_option (Answers a) Frame ha hb e = absurd ((answers_frame a).0 e)
 one_option (Answers a) Inline ha hb e = absurd ((answers_inline a).0 e)
 one_option (Answers a) Linked ha hb e = absurd ((answers_linked a).0 e)
+one_option (Answers a) Linkable ha hb e = absurd ((answers_linkable a).0 e)
+one_option (Answers a) FloatAbi ha hb e = absurd ((abi_answers a).1 e)
 one_option (Answers a) (Symbols p) ha hb e = absurd ((answers_symbols a p).0 e)
 one_option Frame (Passes l) ha hb e = absurd ((frame_passes l).0 e)
 one_option Frame (Reserve r) ha hb e = absurd ((frame_reserve r).0 e)
@@ -161,6 +220,8 @@ one_option Frame (Answers a) ha hb e = absurd ((answers_frame a).1 e)
 one_option Frame Frame ha hb e = refl
 one_option Frame Inline ha hb e = absurd (frame_inline.0 e)
 one_option Frame Linked ha hb e = absurd (frame_linked.0 e)
+one_option Frame Linkable ha hb e = absurd (frame_linkable.0 e)
+one_option Frame FloatAbi ha hb e = absurd (abi_frame.1 e)
 one_option Frame (Symbols p) ha hb e = absurd ((frame_symbols p).0 e)
 one_option Inline (Passes l) ha hb e = absurd ((inline_passes l).0 e)
 one_option Inline (Reserve r) ha hb e = absurd ((inline_reserve r).0 e)
@@ -169,6 +230,8 @@ one_option Inline (Answers a) ha hb e = absurd ((answers_inline a).1 e)
 one_option Inline Frame ha hb e = absurd (frame_inline.1 e)
 one_option Inline Inline ha hb e = refl
 one_option Inline Linked ha hb e = absurd (inline_linked.0 e)
+one_option Inline Linkable ha hb e = absurd (inline_linkable.0 e)
+one_option Inline FloatAbi ha hb e = absurd (abi_inline.1 e)
 one_option Inline (Symbols p) ha hb e = absurd ((inline_symbols p).0 e)
 one_option Linked (Passes l) ha hb e = absurd ((linked_passes l).0 e)
 one_option Linked (Reserve r) ha hb e = absurd ((linked_reserve r).0 e)
@@ -177,7 +240,29 @@ one_option Linked (Answers a) ha hb e = absurd ((answers_linked a).1 e)
 one_option Linked Frame ha hb e = absurd (frame_linked.1 e)
 one_option Linked Inline ha hb e = absurd (inline_linked.1 e)
 one_option Linked Linked ha hb e = refl
+one_option Linked Linkable ha hb e = absurd (linkable_linked.1 e)
+one_option Linked FloatAbi ha hb e = absurd (abi_linked.1 e)
 one_option Linked (Symbols p) ha hb e = absurd ((linked_symbols p).0 e)
+one_option Linkable (Passes l) ha hb e = absurd ((linkable_passes l).0 e)
+one_option Linkable (Reserve r) ha hb e = absurd ((linkable_reserve r).0 e)
+one_option Linkable (Arguments a) ha hb e = absurd ((arguments_linkable a).1 e)
+one_option Linkable (Answers a) ha hb e = absurd ((answers_linkable a).1 e)
+one_option Linkable Frame ha hb e = absurd (frame_linkable.1 e)
+one_option Linkable Inline ha hb e = absurd (inline_linkable.1 e)
+one_option Linkable Linked ha hb e = absurd (linkable_linked.0 e)
+one_option Linkable Linkable ha hb e = refl
+one_option Linkable FloatAbi ha hb e = absurd (abi_linkable.1 e)
+one_option Linkable (Symbols p) ha hb e = absurd ((linkable_symbols p).0 e)
+one_option FloatAbi (Passes l) ha hb e = absurd ((abi_passes l).0 e)
+one_option FloatAbi (Reserve r) ha hb e = absurd ((abi_reserve r).0 e)
+one_option FloatAbi (Arguments a) ha hb e = absurd ((abi_arguments a).0 e)
+one_option FloatAbi (Answers a) ha hb e = absurd ((abi_answers a).0 e)
+one_option FloatAbi Frame ha hb e = absurd (abi_frame.0 e)
+one_option FloatAbi Inline ha hb e = absurd (abi_inline.0 e)
+one_option FloatAbi Linked ha hb e = absurd (abi_linked.0 e)
+one_option FloatAbi Linkable ha hb e = absurd (abi_linkable.0 e)
+one_option FloatAbi FloatAbi ha hb e = refl
+one_option FloatAbi (Symbols p) ha hb e = absurd ((abi_symbols p).0 e)
 one_option (Symbols p) (Passes l) ha hb e = absurd ((passes_symbols l p).1 e)
 one_option (Symbols p) (Reserve r) ha hb e = absurd ((reserve_symbols r p).1 e)
 one_option (Symbols p) (Arguments a) ha hb e = absurd ((arguments_symbols a p).1 e)
@@ -185,6 +270,8 @@ one_option (Symbols p) (Answers a) ha hb e = absurd ((answers_symbols a p).1 e)
 one_option (Symbols p) Frame ha hb e = absurd ((frame_symbols p).1 e)
 one_option (Symbols p) Inline ha hb e = absurd ((inline_symbols p).1 e)
 one_option (Symbols p) Linked ha hb e = absurd ((linked_symbols p).1 e)
+one_option (Symbols p) Linkable ha hb e = absurd ((linkable_symbols p).1 e)
+one_option (Symbols p) FloatAbi ha hb e = absurd ((abi_symbols p).1 e)
 one_option (Symbols p) (Symbols q) ha hb e = ap (λ (x : List (Symbol × ℕ)). Symbols x) (one_symbols p q ha hb (ap (drop 10) e))
 
 one_value : (a b : CommandOption) → ◌≡◌ {A = Option CommandOption} (Some a) (Some b) → a ≡ b
@@ -200,17 +287,19 @@ the_option word a is b = (
 
 -- a word that is no option of any kind is none
 pub no_option : (word : List ℕ) → (word ≡ codes "--frame" → ⊥) → (word ≡ codes "--inline" → ⊥) → (word ≡ codes "--linked" → ⊥) →
-    ((l : List PassKind) → IsWordOf (Passes l) word → ⊥) → ((r : List ℕ) → IsWordOf (Reserve r) word → ⊥) →
+    (word ≡ codes "--linkable" → ⊥) → (word ≡ codes "--abi=lp64d" → ⊥) → ((l : List PassKind) → IsWordOf (Passes l) word → ⊥) → ((r : List ℕ) → IsWordOf (Reserve r) word → ⊥) →
     ((a : List ℕ) → IsWordOf (Arguments a) word → ⊥) → ((a : List ℕ) → IsWordOf (Answers a) word → ⊥) →
     ((s : List (Symbol × ℕ)) → IsWordOf (Symbols s) word → ⊥) → (b : CommandOption) → (◌≡◌ {A = Option CommandOption} None (Some b)) ↔ IsWordOf b word
-no_option word f i k p r n a y (Passes l) = (λ e. absurd cc, λ h. absurd (p l h))
-no_option word f i k p r n a y (Reserve s) = (λ e. absurd cc, λ h. absurd (r s h))
-no_option word f i k p r n a y (Arguments b) = (λ e. absurd cc, λ h. absurd (n b h))
-no_option word f i k p r n a y (Answers b) = (λ e. absurd cc, λ h. absurd (a b h))
-no_option word f i k p r n a y Frame = (λ e. absurd cc, λ h. absurd (f h.0))
-no_option word f i k p r n a y Inline = (λ e. absurd cc, λ h. absurd (i h.0))
-no_option word f i k p r n a y Linked = (λ e. absurd cc, λ h. absurd (k h.0))
-no_option word f i k p r n a y (Symbols s) = (λ e. absurd cc, λ h. absurd (y s h))
+no_option word f i k b d p r n a y (Passes l) = (λ e. absurd cc, λ h. absurd (p l h))
+no_option word f i k b d p r n a y (Reserve s) = (λ e. absurd cc, λ h. absurd (r s h))
+no_option word f i k b d p r n a y (Arguments s) = (λ e. absurd cc, λ h. absurd (n s h))
+no_option word f i k b d p r n a y (Answers s) = (λ e. absurd cc, λ h. absurd (a s h))
+no_option word f i k b d p r n a y Frame = (λ e. absurd cc, λ h. absurd (f h.0))
+no_option word f i k b d p r n a y Inline = (λ e. absurd cc, λ h. absurd (i h.0))
+no_option word f i k b d p r n a y Linked = (λ e. absurd cc, λ h. absurd (k h.0))
+no_option word f i k b d p r n a y Linkable = (λ e. absurd cc, λ h. absurd (b h.0))
+no_option word f i k b d p r n a y FloatAbi = (λ e. absurd cc, λ h. absurd (d h.0))
+no_option word f i k b d p r n a y (Symbols s) = (λ e. absurd cc, λ h. absurd (y s h))
 
 -- ---- numbers and registers as they are read
 

@@ -1,5 +1,5 @@
 -- The commands, and the words of a command line that are each of them.
-use Rattle.std.specs.Prelude.{◌≡◌, ℕ, ◌≤◌, Bool, true, false, not, ◌&&◌, is_some, List, [], ◌∷◌, codes, Option, Some, None}
+use Rattle.std.specs.Prelude.{◌≡◌, ℕ, ◌≤◌, Bool, true, false, not, ◌&&◌, ◌||◌, cond, is_some, List, [], ◌∷◌, codes, Option, Some, None}
 use Rattle.std.specs.Fmt.{decimal}
 use Rattle.rv64_instr.specs.declared.symbol.Symbol.{Symbol}
 use Rattle.cli_numbers.specs.declared.generation.Generation.{Generation}
@@ -10,6 +10,8 @@ use Rattle.cli.specs.declared.command.Command.{Command}
 use Rattle.cli.specs.declared.command.Command.TheVariants.{Compile, Listing, Report, Object, Run, Strip, Gen, SelfTest}
 use Rattle.cli.specs.declared.command.PassPipeline.{PassPipeline}
 use Rattle.cli.specs.declared.command.CompilePlan.{CompilePlan}
+use Rattle.cli.specs.declared.command.LinkableForm.{LinkableForm}
+use Rattle.cli.specs.declared.command.ObjectPlan.{ObjectPlan}
 use Rattle.cli.specs.declared.command.RunPlan.{RunPlan}
 use Rattle.cli.specs.declared.command.TestPlan.{TestPlan}
 use Rattle.pass_list.specs.declared.kind.PassKind.{PassKind}
@@ -35,6 +37,10 @@ abbrev pub passes_in : Option (List PassKind) → List PassKind
 passes_in None = STANDARD
 passes_in (Some passes) = passes
 
+-- there is an option that is of objects alone
+abbrev pub has_object_words : Options → Bool
+has_object_words given = given.linkable || given.float_abi
+
 -- the plan of these options, which may include `--passes`, `--reserve` and `--linked` but no other
 pub record IsPlanOf (given : Options) (plan : PassPipeline) : Type 0 where
   pub passes : plan.passes ≡ passes_in given.passes
@@ -45,6 +51,7 @@ pub record IsPlanOf (given : Options) (plan : PassPipeline) : Type 0 where
   pub no_frame : given.frame ≡ false
   pub no_inline : given.inline ≡ false
   pub no_symbols : given.symbols ≡ None
+  pub no_object_words : has_object_words given ≡ false
 
 -- what `compile` writes with these options, which may be any but those of numbers and addresses
 pub record IsCompileOf (given : Options) (c : CompilePlan) : Type 0 where
@@ -56,10 +63,36 @@ pub record IsCompileOf (given : Options) (c : CompilePlan) : Type 0 where
   pub no_arguments : given.arguments ≡ None
   pub no_answers : given.answers ≡ None
   pub no_symbols : given.symbols ≡ None
+  pub no_object_words : has_object_words given ≡ false
+
+-- the form of an object that a linker places; none of one that isn't asked for
+abbrev pub form_in : Options → Option LinkableForm
+form_in given = cond given.linkable (Some (record { frame = given.frame; float_abi = given.float_abi })) None
+
+-- options that are of objects that a linker places alone are given for one that isn't
+abbrev pub has_idle_form : Options → Bool
+has_idle_form given = not given.linkable && (given.frame || given.float_abi || given.linked)
+
+-- the object that these options ask for, which may be any but `--inline` and those of numbers and addresses, and those of an object that a linker places only
+-- beside `--linkable`
+pub record IsObjectPlanOf (given : Options) (asked : ObjectPlan) : Type 0 where
+  pub passes : asked.plan.passes ≡ passes_in given.passes
+  pub reserve : asked.plan.reserve ≡ reserve_in given.reserve
+  pub linked : asked.plan.linked ≡ given.linked
+  pub form : asked.form ≡ form_in given
+  pub no_idle_form : has_idle_form given ≡ false
+  pub no_inline : given.inline ≡ false
+  pub no_arguments : given.arguments ≡ None
+  pub no_answers : given.answers ≡ None
+  pub no_symbols : given.symbols ≡ None
 
 -- the words are options, in any order and each at most once, and this is what `compile` writes with them
 abbrev pub GivesCompile : (words : List (List ℕ)) → CompilePlan → Type 0
 GivesCompile words c = (given : Options) × GiveOptions none_given words given × IsCompileOf given c
+
+-- the words are options, in any order and each at most once, and this is the object that they ask for
+abbrev pub GivesObject : (words : List (List ℕ)) → ObjectPlan → Type 0
+GivesObject words asked = (given : Options) × GiveOptions none_given words given × IsObjectPlanOf given asked
 
 -- the words are options, in any order and each at most once, with this plan
 abbrev pub GivesPlan : (words : List (List ℕ)) → PassPipeline → Type 0
@@ -91,6 +124,7 @@ pub record IsRunPlanOf (name : List ℕ) (count : ℕ) (given : Options) (run : 
   pub no_frame : given.frame ≡ false
   pub no_inline : given.inline ≡ false
   pub no_idle_symbols : has_idle_symbols given ≡ false
+  pub no_object_words : has_object_words given ≡ false
 
 -- the greatest number of steps of a run
 abbrev pub MAX_STEPS : ℕ
@@ -139,7 +173,7 @@ IsCommand [] command = ⊥
 IsCommand (name ∷ words) (Compile c) = (name ≡ codes "compile") × GivesCompile words c
 IsCommand (name ∷ words) (Listing plan) = (name ≡ codes "listing") × GivesPlan words plan
 IsCommand (name ∷ words) (Report plan) = (name ≡ codes "report") × GivesPlan words plan
-IsCommand (name ∷ words) (Object plan) = (name ≡ codes "object") × GivesPlainPlan words plan
+IsCommand (name ∷ words) (Object asked) = (name ≡ codes "object") × GivesObject words asked
 IsCommand (name ∷ words) (Run run) = (name ≡ codes "run") × GivesRun words run
 IsCommand (name ∷ words) (Strip linked) = (name ≡ codes "strip") × (words ≡ strip_words linked)
 IsCommand (name ∷ words) (Gen g) = (name ≡ codes "gen") × (words ≡ decimal g.number ∷ decimal g.blocks ∷ []) × IsWithin g
@@ -150,7 +184,7 @@ abbrev pub AreWithin : Command → Type 0
 AreWithin (Compile plan) = Unit {0}
 AreWithin (Listing plan) = Unit {0}
 AreWithin (Report plan) = Unit {0}
-AreWithin (Object plan) = Unit {0}
+AreWithin (Object asked) = Unit {0}
 AreWithin (Run run) = Unit {0}
 AreWithin (Strip linked) = Unit {0}
 AreWithin (Gen g) = IsWithin g

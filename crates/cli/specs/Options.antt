@@ -8,7 +8,7 @@ use Rattle.cli_numbers.specs.Reserve.{register_name, IsReserveText}
 use Rattle.cli_numbers.specs.Symbols.{pair_text, IsAddressText}
 use Rattle.rv64_instr.specs.declared.symbol.Symbol.{Symbol}
 use Rattle.cli.specs.declared.option.CommandOption.{CommandOption}
-use Rattle.cli.specs.declared.option.CommandOption.TheVariants.{Passes, Reserve, Arguments, Answers, Frame, Inline, Linked, Symbols}
+use Rattle.cli.specs.declared.option.CommandOption.TheVariants.{Passes, Reserve, Arguments, Answers, Frame, Inline, Linked, Linkable, FloatAbi, Symbols}
 use Rattle.cli.specs.declared.options.Options.{Options}
 
 -- the text of registers: their names, separated by commas
@@ -32,6 +32,8 @@ word_of (Answers values) = codes "--answers=" ++ numbers_text values
 word_of Frame = codes "--frame"
 word_of Inline = codes "--inline"
 word_of Linked = codes "--linked"
+word_of Linkable = codes "--linkable"
+word_of FloatAbi = codes "--abi=lp64d"
 word_of (Symbols pairs) = codes "--symbols=" ++ symbols_text pairs
 
 -- the values that an option may have: passes, each once; one or more registers that may be reserved, each once; one to eight numbers of 64 bits; one to 64
@@ -44,6 +46,8 @@ IsAllowed (Answers values) = AreListed 64 (numbers_text values) values
 IsAllowed Frame = Unit {0}
 IsAllowed Inline = Unit {0}
 IsAllowed Linked = Unit {0}
+IsAllowed Linkable = Unit {0}
+IsAllowed FloatAbi = Unit {0}
 IsAllowed (Symbols pairs) = IsAddressText (symbols_text pairs) pairs
 
 -- the word is this option, with a value that it may have
@@ -60,6 +64,8 @@ none_given = record {
   frame = false;
   inline = false;
   linked = false;
+  linkable = false;
+  float_abi = false;
   symbols = None;
 }
 
@@ -72,6 +78,8 @@ IsWith given (Answers values) next = (given.answers ≡ None) × (next ≡ recor
 IsWith given Frame next = (given.frame ≡ false) × (next ≡ record given { frame = true })
 IsWith given Inline next = (given.inline ≡ false) × (next ≡ record given { inline = true })
 IsWith given Linked next = (given.linked ≡ false) × (next ≡ record given { linked = true })
+IsWith given Linkable next = (given.linkable ≡ false) × (next ≡ record given { linkable = true })
+IsWith given FloatAbi next = (given.float_abi ≡ false) × (next ≡ record given { float_abi = true })
 IsWith given (Symbols pairs) next = (given.symbols ≡ None) × (next ≡ record given { symbols = Some pairs })
 
 -- the options after adding the one in a word, which isn't among them yet

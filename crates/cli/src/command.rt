@@ -3,10 +3,11 @@
 ghost use Rattle.std.specs.Prelude.{◌≡◌, ◌↔◌, ◌∷◌, [], Bool, false, map, string_bytes, Some, IfOk};
 ghost use Rattle.cli.specs.Command.{IsCommand, IsPlain, GivesPlan, GivesPlainPlan, IsPlainPlan, IsPlanOf, reserve_in};
 ghost use Rattle.cli.specs.Command.{GivesRun, GivesSteps, IsRunPlanOf, addresses_given, has_idle_symbols, numbers_in};
-ghost use Rattle.cli.specs.Command.{passes_in};
+ghost use Rattle.cli.specs.Command.{form_in, has_idle_form, has_object_words, passes_in, GivesObject, IsObjectPlanOf};
 ghost use Rattle.cli.specs.Command.{GivesTest, GivesTestOf, GivesCompile, IsCompileOf, strip_words};
 ghost use Rattle.cli.specs.declared.command.CompilePlan.{CompilePlan};
 ghost use Rattle.cli.specs.declared.command.Command.{Command};
+ghost use Rattle.cli.specs.declared.command.ObjectPlan.{ObjectPlan};
 ghost use Rattle.cli.specs.declared.command.PassPipeline.{PassPipeline};
 ghost use Rattle.cli.specs.declared.command.RunPlan.{RunPlan};
 ghost use Rattle.cli.specs.declared.command.TestPlan.{TestPlan};
@@ -48,6 +49,24 @@ pub struct CompilePlan {
     pub inline: bool,
 }
 
+/// The form of an object that a linker places.
+#[derive(Clone, Copy, Debug, PartialEq, Eq)]
+pub struct LinkableForm {
+    /// Whether the section `.debug_frame` is among the sections.
+    pub frame: bool,
+    /// Whether its functions may be called with floating-point numbers in registers.
+    pub float_abi: bool,
+}
+
+/// The object that `object` writes.
+#[derive(Debug, Drop)]
+pub struct ObjectPlan {
+    /// The passes before compilation, and the registers that may be spilled.
+    pub plan: PassPipeline,
+    /// The form of an object that a linker places, if it is to be one.
+    pub form: Option<LinkableForm>,
+}
+
 /// The run of a function.
 #[derive(Debug, Drop)]
 pub struct RunPlan {
@@ -85,7 +104,7 @@ pub enum Command {
     /// lost.
     Report(PassPipeline),
     /// Writes the relocatable object of the functions after passes.
-    Object(PassPipeline),
+    Object(ObjectPlan),
     /// Writes the steps of a function's machine code, with the values of its variables.
     Run(RunPlan),
     /// Writes each function without its debug items. The flag is whether functions are read in the linked language.
@@ -98,12 +117,13 @@ pub enum Command {
 
 /// The command that the words are; `None` if they are none. `compile`, `listing`, `report` and `object` have options
 /// in any order: a list of passes, as `--passes=copy,fold` or `--passes=none`, and registers that may be spilled, as
-/// `--reserve=x8,x18`; all but `object` have `--linked`, for functions in the linked language. `compile` has the
-/// options `--frame` and `--inline` too. `run` has a function's name, its greatest number of steps, 0 to 1,000,000, and
-/// the options of `listing`, as well as the function's arguments, as `--args=1,2`, the return values of its calls, as
-/// `--answers=3`, and beside `--linked` addresses of symbols, as `--symbols=g=4096`. `strip` has `--linked` alone. `gen`
-/// has the number of a function, 0 to 65,536, and its number of blocks, 1 to 512. `selftest` has such numbers and the
-/// options of `object`.
+/// `--reserve=x8,x18`, and `--linked`, for functions in the linked language. `compile` has the options `--frame` and
+/// `--inline` too. `object` has `--linkable`, and only beside that `--linked`, `--frame` and `--abi=lp64d`. `run` has a
+/// function's name, its greatest number of steps, 0 to 1,000,000, and the options of `listing`, as well as the
+/// function's arguments, as `--args=1,2`, the return values of its calls, as `--answers=3`, and beside `--linked`
+/// addresses of symbols, as `--symbols=g=4096`. `strip` has `--linked` alone. `gen` has the number of a function, 0 to
+/// 65,536, and its number of blocks, 1 to 512. `selftest` has such numbers and the options of `listing` but for
+/// `--linked`.
 pub fn parse(alloc: Global, words: &[String]) -> Result<Option<Command>, AllocError>
     ensures { IfOk result (λ o. (command : Command) →
         (o ≡ Some command) ↔ IsCommand (map string_bytes words.now) command) }
@@ -138,8 +158,8 @@ fn named(alloc: Global, name: &str, words: &[String]) -> Result<Option<Command>,
         };
     }
     if is_same(name, "object") {
-        return match plain_plan_asked(alloc, words)? {
-            Some(plan) => Ok(Some(Command::Object(plan))),
+        return match object_asked(alloc, words)? {
+            Some(asked) => Ok(Some(Command::Object(asked))),
             None => Ok(None),
         };
     }
@@ -208,6 +228,10 @@ fn compile_asked(alloc: Global, words: &[String]) -> Result<Option<CompilePlan>,
 fn compile_of(alloc: Global, given: Options) -> Option<CompilePlan>
     ensures { (plan : CompilePlan) → (result ≡ Some plan) ↔ IsCompileOf given plan }
 {
+    let for_objects = has_object_words(&given);
+    if for_objects {
+        return None;
+    }
     let Options {
         passes,
         reserve,
@@ -216,6 +240,8 @@ fn compile_of(alloc: Global, given: Options) -> Option<CompilePlan>
         frame,
         inline,
         linked,
+        linkable: _,
+        float_abi: _,
         symbols,
     } = given;
     if arguments.is_some() || answers.is_some() || symbols.is_some() {
@@ -232,6 +258,79 @@ fn compile_of(alloc: Global, given: Options) -> Option<CompilePlan>
     })
 }
 
+/// The object that options ask for; `None` if a word is no option, an option repeats, or one isn't of this object.
+fn object_asked(alloc: Global, words: &[String]) -> Result<Option<ObjectPlan>, AllocError>
+    ensures { IfOk result (λ o. (asked : ObjectPlan) →
+        (o ≡ Some asked) ↔ GivesObject (map string_bytes words.now) asked) }
+{
+    match options(alloc, words)? {
+        Some(given) => Ok(object_of(alloc, given)),
+        None => Ok(None),
+    }
+}
+
+/// The object that options ask for; `None` if others are among them.
+fn object_of(alloc: Global, given: Options) -> Option<ObjectPlan>
+    ensures { (asked : ObjectPlan) → (result ≡ Some asked) ↔ IsObjectPlanOf given asked }
+{
+    let idle = has_idle_form(&given);
+    if idle {
+        return None;
+    }
+    let form = form_in(&given);
+    let Options {
+        passes,
+        reserve,
+        arguments,
+        answers,
+        frame: _,
+        inline,
+        linked,
+        linkable: _,
+        float_abi: _,
+        symbols,
+    } = given;
+    if arguments.is_some() || answers.is_some() || inline || symbols.is_some() {
+        return None;
+    }
+    Some(ObjectPlan {
+        plan: PassPipeline {
+            passes: passes_in(passes),
+            reserve: reserve_in(alloc, reserve),
+            linked,
+        },
+        form,
+    })
+}
+
+/// The form of an object that a linker places; `None` if none is asked for.
+fn form_in(given: &Options) -> Option<LinkableForm>
+    ensures { result ≡ form_in given.now }
+{
+    if given.linkable {
+        Some(LinkableForm {
+            frame: given.frame,
+            float_abi: given.float_abi,
+        })
+    } else {
+        None
+    }
+}
+
+/// Whether options of an object that a linker places are given for one that isn't.
+fn has_idle_form(given: &Options) -> bool
+    ensures { result ≡ has_idle_form given.now }
+{
+    !given.linkable && (given.frame || given.float_abi || given.linked)
+}
+
+/// Whether options are given that are of objects alone.
+fn has_object_words(given: &Options) -> bool
+    ensures { result ≡ has_object_words given.now }
+{
+    given.linkable || given.float_abi
+}
+
 /// The plan of options; `None` if a word is no option, an option repeats, or one isn't of a plan.
 fn plan_asked(alloc: Global, words: &[String]) -> Result<Option<PassPipeline>, AllocError>
     ensures { IfOk result (λ o. (plan : PassPipeline) → (o ≡ Some plan) ↔ GivesPlan (map string_bytes words.now) plan) }
@@ -246,6 +345,10 @@ fn plan_asked(alloc: Global, words: &[String]) -> Result<Option<PassPipeline>, A
 fn plan_of(alloc: Global, given: Options) -> Option<PassPipeline>
     ensures { (plan : PassPipeline) → (result ≡ Some plan) ↔ IsPlanOf given plan }
 {
+    let for_objects = has_object_words(&given);
+    if for_objects {
+        return None;
+    }
     let Options {
         passes,
         reserve,
@@ -254,6 +357,8 @@ fn plan_of(alloc: Global, given: Options) -> Option<PassPipeline>
         frame,
         inline,
         linked,
+        linkable: _,
+        float_abi: _,
         symbols,
     } = given;
     if arguments.is_some() || answers.is_some() || frame || inline || symbols.is_some() {
@@ -323,6 +428,10 @@ fn steps_asked(
     if with_idle {
         return Ok(None);
     }
+    let for_objects = has_object_words(&given);
+    if for_objects {
+        return Ok(None);
+    }
     let name = Name::from_slice(alloc, name.as_bytes())?;
     Ok(Some(run_of(alloc, name, count as u32, given)))
 }
@@ -339,6 +448,7 @@ fn run_of(alloc: Global, name: Name, steps: u32, given: Options) -> RunPlan
     requires frame { given.frame ≡ false }
     requires inline { given.inline ≡ false }
     requires idle { has_idle_symbols given ≡ false }
+    requires for_objects { has_object_words given ≡ false }
     ensures { (run : RunPlan) → (result ≡ run) ↔ IsRunPlanOf name steps given run }
 {
     let Options {
@@ -349,6 +459,8 @@ fn run_of(alloc: Global, name: Name, steps: u32, given: Options) -> RunPlan
         frame: _,
         inline: _,
         linked,
+        linkable: _,
+        float_abi: _,
         symbols,
     } = given;
     RunPlan {

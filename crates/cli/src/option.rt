@@ -40,6 +40,10 @@ pub enum CommandOption {
     Inline,
     /// `--linked`: functions are read in the linked language.
     Linked,
+    /// `--linkable`: an object that a linker places.
+    Linkable,
+    /// `--abi=lp64d`: an object whose functions may be called with floating-point numbers in registers.
+    FloatAbi,
     /// `--symbols=` and the addresses of symbols.
     Symbols(SymbolAddresses),
 }
@@ -56,6 +60,12 @@ pub fn command_option(alloc: Global, word: &str) -> Result<Option<CommandOption>
     }
     if is_same(word, "--linked") {
         return Ok(Some(CommandOption::Linked));
+    }
+    if is_same(word, "--linkable") {
+        return Ok(Some(CommandOption::Linkable));
+    }
+    if is_same(word, "--abi=lp64d") {
+        return Ok(Some(CommandOption::FloatAbi));
     }
     if let Some(list) = passes(word) {
         return Ok(Some(CommandOption::Passes(list)));

@@ -27,6 +27,10 @@ pub struct Options {
     pub inline: bool,
     /// Whether functions are read in the linked language.
     pub linked: bool,
+    /// Whether an object is one that a linker places.
+    pub linkable: bool,
+    /// Whether its functions may be called with floating-point numbers in registers.
+    pub float_abi: bool,
     /// The addresses of symbols.
     pub symbols: Option<SymbolAddresses>,
 }
@@ -44,6 +48,8 @@ impl Options {
             frame: false,
             inline: false,
             linked: false,
+            linkable: false,
+            float_abi: false,
             symbols: None,
         }
     }
@@ -100,6 +106,20 @@ impl Options {
                     return None;
                 }
                 self.linked = true;
+                Some(self)
+            }
+            CommandOption::Linkable => {
+                if self.linkable {
+                    return None;
+                }
+                self.linkable = true;
+                Some(self)
+            }
+            CommandOption::FloatAbi => {
+                if self.float_abi {
+                    return None;
+                }
+                self.float_abi = true;
                 Some(self)
             }
             CommandOption::Symbols(pairs) => {

@@ -1,2 +1,3 @@
 pub mod Table
 pub mod Laws
+pub use Rattle.emit_code.specs as emit_code

@@ -18,7 +18,7 @@ fn main(rt: HostRuntime) -> io::Result<()> {
     for function in found.functions.as_slice() {
         for line in function.body.as_slice() {
             let code = before_memory_operands(before_comment(line.text.as_slice()));
-            if let Ok(found) = tokens(rt.alloc(), code) {
+            if let Ok(found) = tokens(rt.alloc(), false, code) {
                 count = count.wrapping_add(found.len());
             }
         }

@@ -5,6 +5,7 @@ use Rattle.std.specs.Prelude.{IfSome, Contains, codes, is_some}
 use Rattle.std.specs.List.{All, list_all, list_any}
 use Rattle.std.proofs.lemmas.Bool.{and_from}
 use Rattle.std.proofs.lemmas.List.Elements.{All-nil, All-cons, All-append, All-head, All-tail, All-weaker}
+use Rattle.mir_exposure.specs.declared.exposure.Exposure.TheVariants.{Nothing}
 use Rattle.read_refusal.specs.declared.first.Refusal.{Refusal}
 use Rattle.read_refusal.specs.First.{earlier}
 use Rattle.read_metadata.specs.Maps.{Maps}
@@ -296,7 +297,7 @@ module _ (meta : Maps) (number count : ℕ) (some : 1 ≤ count) (few : count �
       ∙ blocks_again [] SLOTS ids same_ids Any bs read_blocks knows ∙ plain
 
   abbrev declares : Declarations
-  declares = record { name = codes "gen"; stack = ENTRIES; substitutions = []; pool = [] }
+  declares = record { name = codes "gen"; stack = ENTRIES; substitutions = []; pool = []; exposure = Nothing }
 
   same_function : function_of declares body ≡ f
   same_function = λ i. record { name = codes "gen"; slots = slots i; objects = objects i; blocks = blocks i }
@@ -306,7 +307,7 @@ module _ (meta : Maps) (number count : ℕ) (some : 1 ≤ count) (few : count �
       let name = names_read_back (n + 1) (codes "gen") gen_bytes in
       let stack = stacks_read_back (n + 2) SLOTS [] declared.each declared.several declared.apart declared.few in
       λ i. checked (earlier (earlier (earlier (name i).refused (stack i).refused) (earlier (no_fixed i) (no_substitutions i).refused)) None)
-      (record { name = (name i).name; stack = (stack i).entries; substitutions = (no_substitutions i).entries; pool = [] })
+      (record { name = (name i).name; stack = (stack i).entries; substitutions = (no_substitutions i).entries; pool = []; exposure = Nothing })
 
   -- ---- its close
 
@@ -351,11 +352,12 @@ module _ (meta : Maps) (number count : ℕ) (some : 1 ≤ count) (few : count �
   ends : EndWell (function_of declares body).blocks
   ends = subst EndWell (sym blocks) (read.sound.ends, read.sound.last)
 
-  pub function_read : Parses meta doc (Ok (record { func = f; subs = [] }))
+  pub function_read : Parses meta doc (Ok (record { func = f; subs = []; pool = []; exposure = Nothing }))
   function_read =
-      let answer : Result Parsed ParseError = Ok (record { func = f; subs = [] }) in
+      let answer : Result Parsed ParseError = Ok (record { func = f; subs = []; pool = []; exposure = Nothing }) in
       subst (λ (r : Result Declarations Refusal). ParsesParts doc.closed r (body_of false meta doc.body) answer) (sym are_declared)
-      (subst (λ (r : Result Body Refusal). ParsesParts doc.closed (Ok declares) r answer) (sym reads.read) (none, sym same_function, refl, ends))
+      (subst (λ (r : Result Body Refusal). ParsesParts doc.closed (Ok declares) r answer) (sym reads.read)
+      (none, sym same_function, refl, ends, refl, refl))
 
   pub all_writable : All IsWritable (items_of bs)
   all_writable = of_good IsWritable (λ i g. record { kind = g.limited.0; language = language_made g.made; loc = g.limited.1; names = bytes_made g.made })

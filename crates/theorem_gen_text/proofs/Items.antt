@@ -90,13 +90,13 @@ judged_by : (op : Op) (xs os : List Operand) → map as_slot xs ≡ os → has_f
 judged_by op xs os same form =
     ap (λ (ys : List Operand). cond (has_form op ys) ys xs) same ∙ ap (λ (b : Bool). cond b os xs) form
 
-judged_again : (ids : List ℕ) (op : Op) (os : List Operand) → has_form op os ≡ true → map as_slot os ≡ os →
-    judged_instruction (instr_as ids (record { op = op; operands = os })) ≡ record { op = op; operands = os }
-judged_again ids op os form same = by (has_form op (operands_as ids os)) where
-  by : (b : Bool) → judged_instruction (cond b (record { op = op; operands = operands_as ids os }) (record { op = op; operands = os }))
-      ≡ record { op = op; operands = os }
-  by true = ap (λ (xs : List Operand). record { op = op; operands = xs }) (judged_by op (operands_as ids os) os (slots_as ids os ∙ same) form)
-  by false = ap (λ (xs : List Operand). record { op = op; operands = xs }) (judged_by op os os same form)
+judged_again : (ids : List ℕ) (volatile : Bool) (op : Op) (os : List Operand) → has_form op os ≡ true → map as_slot os ≡ os →
+    judged_instruction (instr_as ids (record { op = op; operands = os; volatile = volatile })) ≡ record { op = op; operands = os; volatile = volatile }
+judged_again ids volatile op os form same = by (has_form op (operands_as ids os)) where
+  by : (b : Bool) → judged_instruction (cond b (record { op = op; operands = operands_as ids os; volatile = volatile }) (record { op = op; operands = os; volatile = volatile }))
+      ≡ record { op = op; operands = os; volatile = volatile }
+  by true = ap (λ (xs : List Operand). record { op = op; operands = xs; volatile = volatile }) (judged_by op (operands_as ids os) os (slots_as ids os ∙ same) form)
+  by false = ap (λ (xs : List Operand). record { op = op; operands = xs; volatile = volatile }) (judged_by op os os same form)
 
 -- without objects operands stay
 operand_plain : (o : Operand) → operand_as [] o ≡ o
@@ -109,8 +109,8 @@ operands_plain (o ∷ os) = λ i. operand_plain o i ∷ operands_plain os i
 
 instr_plain : (c : Instruction) → instr_as [] c ≡ c
 instr_plain c = by (has_form c.op (operands_as [] c.operands)) where
-  by : (b : Bool) → cond b (record { op = c.op; operands = operands_as [] c.operands }) c ≡ c
-  by true = ap (λ (xs : List Operand). record { op = c.op; operands = xs }) (operands_plain c.operands)
+  by : (b : Bool) → cond b (record c { operands = operands_as [] c.operands }) c ≡ c
+  by true = ap (λ (xs : List Operand). record c { operands = xs }) (operands_plain c.operands)
   by false = refl
 
 pub kind_plain : {kind : ItemKind} → IsMade TOP kind → kind_as [] kind ≡ kind
@@ -131,7 +131,7 @@ kind_plain returns = ap (λ (i : Instruction). Code i None) (instr_plain _)
 code_known : (c : Instruction) (k : Option ℕ) → HasForm (Code c k) → KindIsLimited (Code c k) → IsOfLanguage false (Code c k) → LeavesPointer (Code c k) →
     map as_slot c.operands ≡ c.operands → All (NamesAmong SLOTS) c.operands → length c.operands ≤ MAX_OPERANDS → IsKnownCode SLOTS c
 code_known c k form limited language pointer same named few = record {
-  again = λ ids. judged_again ids c.op c.operands form same;
+  again = λ ids. judged_again ids c.volatile c.op c.operands form same;
   form = form;
   limited = limited.0;
   language = language.0;
@@ -139,6 +139,7 @@ code_known c k form limited language pointer same named few = record {
   pointer = pointer;
   few = few;
   read = language.1;
+  plain = language.2;
 }
 
 pub known_made : {kind : ItemKind} → IsMade TOP kind → HasForm kind → KindIsLimited kind → IsOfLanguage false kind → LeavesPointer kind → KnownKind SLOTS kind
@@ -155,17 +156,17 @@ known_made (jumps n l) f m g p = code_known _ None f m g p refl (one (NamesAmong
 known_made returns f m g p = code_known _ None f m g p refl (one (NamesAmong SLOTS) _ tt) (lit≤ tt)
 
 pub language_made : {kind : ItemKind} → IsMade TOP kind → IsOfLanguage false kind
-language_made (adds rd rs rt k a b c l) = (three (IsOperandOf false) _ _ _ tt tt tt, refl)
-language_made (copies rd rs k a b l) = (two (IsOperandOf false) _ _ tt tt, refl)
-language_made gives = (two (IsOperandOf false) _ _ tt tt, refl)
-language_made (sets rd n k a l m) = (three (IsOperandOf false) _ _ _ tt tt tt, refl)
-language_made (stores rs n a l) = (three (IsOperandOf false) _ _ _ tt tt tt, refl)
-language_made (loads rd n k a l m) = (three (IsOperandOf false) _ _ _ tt tt tt, refl)
+language_made (adds rd rs rt k a b c l) = (three (IsOperandOf false) _ _ _ tt tt tt, refl, λ e. e)
+language_made (copies rd rs k a b l) = (two (IsOperandOf false) _ _ tt tt, refl, λ e. e)
+language_made gives = (two (IsOperandOf false) _ _ tt tt, refl, λ e. e)
+language_made (sets rd n k a l m) = (three (IsOperandOf false) _ _ _ tt tt tt, refl, λ e. e)
+language_made (stores rs n a l) = (three (IsOperandOf false) _ _ _ tt tt tt, refl, λ e. e)
+language_made (loads rd n k a l m) = (three (IsOperandOf false) _ _ _ tt tt tt, refl, λ e. e)
 language_made (phis rs k a l) = tt
 language_made (marks n k l m) = tt
-language_made (branches rs n a l) = (three (IsOperandOf false) _ _ _ tt tt tt, refl)
-language_made (jumps n l) = (one (IsOperandOf false) _ tt, refl)
-language_made returns = (one (IsOperandOf false) _ tt, refl)
+language_made (branches rs n a l) = (three (IsOperandOf false) _ _ _ tt tt tt, refl, λ e. e)
+language_made (jumps n l) = (one (IsOperandOf false) _ tt, refl, λ e. e)
+language_made returns = (one (IsOperandOf false) _ tt, refl, λ e. e)
 
 pub named_made : {kind : ItemKind} → IsMade TOP kind → KindNamesAmong SLOTS kind
 named_made (adds rd rs rt k a b c l) = three (NamesAmong SLOTS) _ _ _ tt tt tt

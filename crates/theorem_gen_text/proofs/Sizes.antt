@@ -1,6 +1,6 @@
 -- How long the text of a generated function is.
 use Rattle.std.proofs.Common.{◌≡◌, ℕ, zero, suc, ◌+◌, ◌*◌, ◌<◌, ◌≤◌, List, [], ◌∷◌, ◌++◌, length, All, refl, sym, ap, subst, lit≤, length-append, arith}
-use Rattle.std.specs.Prelude.{codes}
+use Rattle.std.specs.Prelude.{Bool, false, codes}
 use Rattle.std.specs.List.{flat_map}
 use Rattle.std.specs.Fmt.{decimal}
 use Rattle.std.proofs.lemmas.Fmt.{length-decimal-le}
@@ -9,7 +9,7 @@ use Rattle.mir_func.specs.declared.block.Block.{Block}
 use Rattle.mir_func.specs.declared.item.Item.{Item}
 use Rattle.mir_func.specs.declared.item.ItemKind.{ItemKind}
 use Rattle.mir_func.specs.declared.location.Loc.{Loc}
-use Rattle.mir_printer.specs.Spelling.{register_text, kind_text, location_text}
+use Rattle.mir_printer.specs.Spelling.{register_text, kind_text, location_text, is_volatile_kind, with_memory_operand}
 use Rattle.mir_func_printer.specs.FuncText.{name_text, item_line, block_text, func_text}
 use Rattle.gen_function.specs.Draws.{Drawn}
 use Rattle.gen_function.specs.Generator.{block_items, block_of, blocks_made, generated}
@@ -112,11 +112,26 @@ kind_short (jumps n l) = within (join (uses_by (codes "PseudoBR") (join (word (c
 kind_short returns =
     within (join (uses_by (codes "PseudoRET") (join (word (codes "implicit ")) (register 10 (omega arith)))) (word [])) 100 (lit≤ tt)
 
+-- a generated item isn't volatile
+made_plain : {kind : ItemKind} → IsMade TOP kind → is_volatile_kind kind ≡ false
+made_plain (adds rd rs rt k a b c l) = refl
+made_plain (copies rd rs k a b l) = refl
+made_plain gives = refl
+made_plain (sets rd n k a l m) = refl
+made_plain (stores rs n a l) = refl
+made_plain (loads rd n k a l m) = refl
+made_plain (phis rs k a l) = refl
+made_plain (marks n k l m) = refl
+made_plain (branches rs n a l) = refl
+made_plain (jumps n l) = refl
+made_plain returns = refl
+
 line_short : (i : Item) → IsMadeItem TOP i → length (item_line i) ≤ 105
 line_short i m =
     let kind = kind_short m.made in
-    subst (λ (l : Loc). length (codes "    " ++ (kind_text i.kind ++ location_text l) ++ 10 ∷ []) ≤ 105) (sym m.absent)
-    (within (join (join (word (codes "    ")) (join (known (kind_text i.kind) 100 kind) (word []))) (word (10 ∷ []))) 105 (lit≤ tt))
+    subst (λ (b : Bool). length (codes "    " ++ with_memory_operand b (kind_text i.kind ++ location_text i.loc) ++ 10 ∷ []) ≤ 105) (sym (made_plain m.made))
+    (subst (λ (l : Loc). length (codes "    " ++ (kind_text i.kind ++ location_text l) ++ 10 ∷ []) ≤ 105) (sym m.absent)
+    (within (join (join (word (codes "    ")) (join (known (kind_text i.kind) 100 kind) (word []))) (word (10 ∷ []))) 105 (lit≤ tt)))
 
 lines_short : (items : List Item) → All (IsMadeItem TOP) items → length (flat_map item_line items) ≤ 105 * length items
 lines_short [] all = omega arith

@@ -1,6 +1,7 @@
 -- The document of a generated function is read as its program, alone and behind the metadata.
 use Rattle.std.proofs.Common.{◌≡◌, false, ℕ, ◌≤◌, [], ◌∷◌, ◌++◌, List, Ok, refl, sym, ap, ◌∙◌, subst, arith}
 use Rattle.std.proofs.lemmas.List.Elements.{All-nil}
+use Rattle.mir_exposure.specs.declared.exposure.Exposure.TheVariants.{Nothing}
 use Rattle.read_metadata.specs.Maps.{Maps}
 use Rattle.read_metadata.specs.Metadata.{metadata_of}
 use Rattle.read_documents.specs.declared.parts.Documents.{Documents}
@@ -20,10 +21,13 @@ use Rattle.theorem_gen_text.proofs.Functions.{function_read, all_writable, small
 
 -- the one function of documents is read
 one_read : (meta : Maps) (number count n : ℕ) → 1 ≤ count → count ≤ 512 →
-    FunctionsFrom meta [] (document_at n (document_of (generated number count) []) ∷ []) (Ok (record { func = generated number count; subs = [] } ∷ []))
+    FunctionsFrom meta [] (document_at n (document_of (generated number count) []) ∷ [])
+    (Ok (record { func = generated number count; subs = []; pool = []; exposure = Nothing } ∷ []))
 unfolding FunctionsFrom
-one_read meta number count n some few =
-    ((λ le. absurd (omega (arith, le))), (λ lt. (Ok (record { func = generated number count; subs = [] }), function_read meta number count some few n, refl)))
+one_read meta number count n some few = (
+  (λ le. absurd (omega (arith, le))),
+  (λ lt. (Ok (record { func = generated number count; subs = []; pool = []; exposure = Nothing }), function_read meta number count some few n, refl)),
+)
 
 -- the document is one
 is_one : (meta : Maps) (number count : ℕ) → 1 ≤ count → count ≤ 512 → IsDocument (document_of (generated number count) [])
@@ -38,7 +42,7 @@ generated_documents_are_read number count some few =
     let meta = metadata_of [] in
     let found = ap (documents_of false) (sym (function_fed f [])) ∙ found_alone d (is_one meta number count some few) in
     subst (λ (x : Documents). ReadsDocuments x (Ok (generated_program number count))) (sym found)
-    (Ok (record { func = f; subs = [] } ∷ []), one_read meta number count 1 some few, refl)
+    (Ok (record { func = f; subs = []; pool = []; exposure = Nothing } ∷ []), one_read meta number count 1 some few, refl)
 
 -- ---- behind the metadata
 
@@ -52,4 +56,4 @@ generated_texts_are_read number count some few =
     let found = ap (documents_of false) (text ∙ block_fed (document_lines d))
     ∙ documents_behind metadata_lines d (is_one meta number count some few) lines_print lines_go_on refl in
     subst (λ (x : Documents). ReadsDocuments x (Ok (program_of_text number count))) (sym found)
-    (Ok (record { func = f; subs = [] } ∷ []), one_read meta number count 10 some few, refl)
+    (Ok (record { func = f; subs = []; pool = []; exposure = Nothing } ∷ []), one_read meta number count 10 some few, refl)

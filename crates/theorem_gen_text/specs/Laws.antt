@@ -1,6 +1,7 @@
 -- The statements of the theorems on texts of generated functions.
 use Rattle.std.specs.Prelude.{false, ℕ, ◌≤◌, List, [], ◌∷◌, ◌++◌, length, codes, Ok}
 use Rattle.std.specs.Fmt.{decimal}
+use Rattle.mir_exposure.specs.declared.exposure.Exposure.TheVariants.{Nothing}
 use Rattle.read_metadata.specs.Metadata.{metadata_of}
 use Rattle.mir_func_printer.specs.FuncText.{func_text}
 use Rattle.read_program.specs.declared.program.Program.{Program}
@@ -33,7 +34,7 @@ metadata_lines =
 -- the text
 abbrev pub program_of_text : (number blocks : ℕ) → Program
 program_of_text number count = record {
-  functions = record { func = generated number count; subs = [] } ∷ [];
+  functions = record { func = generated number count; subs = []; pool = []; exposure = Nothing } ∷ [];
   meta = metadata_of (lines_from 2 metadata_lines);
 }
 

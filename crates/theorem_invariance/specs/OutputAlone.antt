@@ -8,11 +8,12 @@ use Rattle.pass_list.specs.declared.kind.PassKind.{PassKind}
 use Rattle.tool_driver.specs.Program.{IsOutputOf, steps_of}
 use Rattle.theorem_invariance.specs.Text.{OneByOne}
 
--- two functions that were read have equal code up to debug items (see `HaveAlikeCode`)
+-- Two functions that were read expose the same and have equal code up to debug items (see `HaveAlikeCode`). What is exposed is no debug item: it is nothing
+-- unless functions are read in the linked language.
 abbrev pub AreReadAlike : Parsed → Parsed → Type 0
-AreReadAlike f g = HaveAlikeCode f.func g.func
+AreReadAlike f g = (f.exposure ≡ g.exposure) × HaveAlikeCode f.func g.func
 
--- Two programs have as many functions, with pairwise equal code up to debug items.
+-- Two programs have as many functions, which pairwise expose the same and have equal code up to debug items.
 abbrev pub HaveAlikeFunctions : Program → Program → Type 0
 HaveAlikeFunctions p q = OneByOne AreReadAlike p.functions q.functions
 

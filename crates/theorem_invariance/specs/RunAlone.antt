@@ -7,7 +7,7 @@ use Rattle.tool_driver.specs.Run.{Finishes, HasWritten}
 use Rattle.tool_driver.specs.Stream.{Change}
 use Rattle.theorem_invariance.specs.OutputAlone.{HaveAlikeFunctions}
 
--- Each run read a program and wrote an output. If both programs have pairwise equal code up to debug items, both outputs have the same `.text`.
+-- Each run read a program and wrote an output. If both programs have functions that are read alike, both outputs have the same `.text`.
 abbrev pub WroteSameText : (linked : Bool) → (input output input' output' : Change) → Type 0
 WroteSameText linked input output input' output' =
     HasWritten linked (λ p o. HasWritten linked (λ q o'. HaveAlikeFunctions p q → o.text ≡ o'.text) input' output') input output

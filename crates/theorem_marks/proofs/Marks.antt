@@ -25,7 +25,7 @@ use Rattle.pass_trait.specs.Debug.{mark_stays, phi_stays, code_stays, code_numbe
 use Rattle.pass_trait.specs.Debug.{substituted, salvaged, salvaged_wrong, mark_silenced, phi_silenced, mark_goes, phi_goes, mark_spilled, phi_spilled}
 use Rattle.pass_trait.specs.Debug.{mark_renamed, phi_renamed}
 use Rattle.pass_trait.specs.Steps.{PassStep, KeepsStep, KeepsSteps}
-use Rattle.pass_manager.specs.Told.{KeepsPass, KeepsPasses}
+use Rattle.run_command.specs.pass_manager.Told.{KeepsPass, KeepsPasses}
 use Rattle.theorem_marks.specs.Stand.{IsNotDropped}
 
 module _ (p : Pos) (v : VarId) where
@@ -138,7 +138,7 @@ module _ (p : Pos) (v : VarId) where
 
   -- ---- steps and passes
 
-  untold_left : (xs ys : List Loss) → IsNotDropped (xs ++ ys) p → IsNotDropped xs p
+  pub untold_left : (xs ys : List Loss) → IsNotDropped (xs ++ ys) p → IsNotDropped xs p
   untold_left xs ys h why at = h why (Contains-append_left xs ys (mark_lost (Kept p) why) at)
 
   untold_right : (xs ys : List Loss) → IsNotDropped (xs ++ ys) p → IsNotDropped ys p

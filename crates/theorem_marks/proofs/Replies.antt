@@ -5,7 +5,7 @@ use Rattle.std.proofs.lemmas.Bool.{ltb-true}
 use Rattle.std.proofs.lemmas.List.Elements.{All-nil, All-cons, All-map}
 use Rattle.rv64_instr.specs.DefsAndUses.{caller_saved}
 use Rattle.sem_mir.specs.State.{IsReply}
-use Rattle.sim_start.specs.InitialMachine.{call_value, call_register, reply_to, replies}
+use Rattle.run_command.specs.sim_start.InitialMachine.{call_value, call_register, reply_to, replies}
 
 -- registers that all are below 32
 abbrev all_low : List ℕ → Bool

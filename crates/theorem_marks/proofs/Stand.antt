@@ -1,6 +1,6 @@
 -- The law.
 use Rattle.std.proofs.Common.{◌≡◌, ◌⊎◌, inl, inr, ℕ, zero, suc, ◌+◌, ◌<◌, List, [], ◌∷◌, length, All, Some, slice_get, true, false}
-use Rattle.std.proofs.Common.{refl, sym, ap, ◌∙◌, arith}
+use Rattle.std.proofs.Common.{refl, sym, ap, ◌∙◌, subst, arith}
 use Rattle.std.specs.Prelude.{slice_index_or}
 use Rattle.std.proofs.lemmas.List.Elements.{All-contains}
 use Rattle.mir_func.specs.declared.block.Block.{Block}
@@ -19,15 +19,17 @@ use Rattle.sem_mir.specs.Align.{is_code}
 use Rattle.sem_mir.specs.Follow.{InOrder, IsRead}
 use Rattle.sem_mir.proofs.Reading.{found_in, front_item, within_list}
 use Rattle.pass_trait.specs.Change.{change}
+use Rattle.pass_trait.specs.declared.loss.Loss.{Loss}
 use Rattle.listing_text.specs.declared.output.ListedFunction.{ListedFunction}
 use Rattle.pass_trait.specs.Rule.{StandsAt}
 use Rattle.read_metadata.specs.Maps.{Maps}
 use Rattle.read_program.specs.declared.closing.Parsed.{Parsed}
-use Rattle.compile_theorem.specs.Source.{PassedFunction}
+use Rattle.run_command.specs.compile_theorem.Source.{PassedFunction}
 use Rattle.pass_list.specs.declared.kind.PassKind.{PassKind}
+use Rattle.run_command.specs.pass_manager.Exposed.{left_exposed}
 use Rattle.run_command.specs.Program.{CompiledFunction, ArePassed, AreCompiledAs, names_of, passes_of}
-use Rattle.theorem_marks.specs.Stand.{KeepsDebugValue, MarksStand, AllStand, CompiledMarksStand}
-use Rattle.theorem_marks.proofs.Marks.{IsMark, HaveMark, passes_keep}
+use Rattle.theorem_marks.specs.Stand.{IsNotDropped, KeepsDebugValue, MarksStand, AllStand, CompiledMarksStand}
+use Rattle.theorem_marks.proofs.Marks.{IsMark, HaveMark, untold_left, passes_keep}
 use Rattle.theorem_marks.proofs.Order.{at_least, kept_later}
 
 index_or : {A : Type 0} (xs : List A) (k : ℕ) (x : A) → slice_get xs k ≡ Some x → slice_index_or xs k x ≡ x
@@ -120,7 +122,8 @@ marks_stand reserve passes p told passed made at i v m stands is untold =
     let f : Function = p.source.function in
     let g : Function = p.function in
     stands_now g passed.follower.follows.shape.order at v
-    (passes_keep at v (passes_of reserve passes) (change f p.source.substitutions g p.substitutions) told made untold
+    (passes_keep at v (passes_of reserve passes p.source.exposure) (change f p.source.substitutions g p.substitutions) made.of_steps made.kept
+    (untold_left at v made.of_steps (left_exposed reserve passes p.source.exposure g) (subst (λ (ls : List Loss). IsNotDropped ls at) made.are untold))
     (read_mark f passed.follower.read at i v m stands is))
 
 all_stand : (names : ℕ → List ℕ) (reserve : List ℕ) (passes : List PassKind) (meta : Maps) (base first : ℕ) (read : List Parsed) (ps : List PassedFunction)

@@ -14,7 +14,7 @@ use Rattle.rv64_instr.specs.declared.symbol.Symbol.{Symbol}
 use Rattle.sem_mir.specs.InitialState.{first_of}
 use Rattle.sem_mir.specs.State.{State, content}
 use Rattle.sem_mir.specs.Step.{or_zero}
-use Rattle.sim_start.specs.InitialMachine.{start_register, other_register, replies}
+use Rattle.run_command.specs.sim_start.InitialMachine.{start_register, other_register, replies}
 use Rattle.theorem_marks.specs.Starts.{RunsCanStart}
 use Rattle.theorem_marks.proofs.Replies.{all_replies}
 

@@ -13,7 +13,7 @@ use Rattle.pass_trait.specs.declared.loss.Loss.{Loss}
 use Rattle.pass_trait.specs.declared.loss.Reason.{Reason}
 use Rattle.pass_trait.specs.Rule.{StandsAt, mark_lost}
 use Rattle.read_program.specs.declared.program.Program.{Program}
-use Rattle.compile_theorem.specs.Source.{PassedFunction, IsPassedFunction}
+use Rattle.run_command.specs.compile_theorem.Source.{PassedFunction, IsPassedFunction}
 use Rattle.pass_list.specs.declared.kind.PassKind.{PassKind}
 use Rattle.run_command.specs.Program.{CompiledFunction, IsCompilationOf, IsMadeLosing}
 use Rattle.run_command.specs.Runs.{Compilation}

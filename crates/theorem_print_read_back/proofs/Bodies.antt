@@ -31,7 +31,7 @@ use Rattle.readback_items.specs.Code.{judged_kind}
 use Rattle.readback_items.specs.Body.{item_at, items_from, judged_block, entries_named, names_object, judged_constant, VariableIn}
 use Rattle.readback_functions.specs.Known.{names}
 use Rattle.readback_functions.proofs.Bodies.{code_declared}
-use Rattle.readback_functions.proofs.FunctionCodes.{KnownKind, same_code, code_limited, code_language, code_read, code_named}
+use Rattle.readback_functions.proofs.FunctionCodes.{KnownKind, same_code, code_limited, code_language, code_read, code_plain, code_named}
 
 module _ (ids entries : List ℕ) where
   abbrev Knows : Item → Type 0
@@ -69,7 +69,7 @@ module _ (ids entries : List ℕ) where
   kind_limited (Phi p k) is small = (place_limited p small.0, small.1)
 
   pub kind_language : (kind : ItemKind) → KnownKind entries kind → IsOfLanguage false (kind_as ids kind)
-  kind_language (Code c k) is = (code_language ids entries c is, code_read ids entries c is)
+  kind_language (Code c k) is = (code_language ids entries c is, code_read ids entries c is, code_plain ids entries c is)
   kind_language (Mark v m) is = tt
   kind_language (Phi p k) is = tt
 

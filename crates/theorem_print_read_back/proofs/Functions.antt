@@ -12,6 +12,7 @@ use Rattle.base_ids.specs.Limits.{MAX_NUMBER}
 use Rattle.read_lexer.specs.declared.line.Line.{Line}
 use Rattle.read_documents.specs.declared.parts.FunctionDocument.{FunctionDocument}
 use Rattle.read_documents.specs.Documents.{documents_of}
+use Rattle.mir_exposure.specs.declared.exposure.Exposure.TheVariants.{Nothing}
 use Rattle.mir_func.specs.declared.block.Block.{Block}
 use Rattle.mir_func.specs.declared.item.Item.{Item}
 use Rattle.mir_func.specs.declared.item.ItemKind.{ItemKind}
@@ -21,6 +22,7 @@ use Rattle.mir_func.specs.Function.{Function}
 use Rattle.mir_func.specs.Objects.{object_of}
 use Rattle.mir_func.specs.Sound.{AllItems, items_of, number_of, IsSound}
 use Rattle.read_declarations.specs.declared.declarations.Declarations.{Declarations}
+use Rattle.read_declarations.proofs.PoolEntries.{plain_pool}
 use Rattle.read_declarations.specs.Declarations.{checked, declarations_of}
 use Rattle.read_body.specs.declared.body.Body.{Body}
 use Rattle.read_body.specs.Body.{constant_of, blocks_of}
@@ -64,6 +66,7 @@ use Rattle.readback_functions.proofs.Known.{bodies_are_known}
 use Rattle.readback_functions.specs.Stripped.{HasNamesOfBytes}
 use Rattle.readback_functions.proofs.Bodies.{all_declared}
 use Rattle.readback_functions.proofs.FunctionCodes.{KnownKind, item_known}
+use Rattle.readback_functions.proofs.Exposed.{exposes_nothing}
 use Rattle.readback_functions.proofs.Functions.{split_items, unmapped, both_items, weaker_items, texts_are, parts_some, ClosesAll, closes_all, no_cause}
 use Rattle.readback_functions.proofs.Functions.{no_fixed}
 use Rattle.readback_functions.proofs.NameDocuments.{DocBytes}
@@ -242,7 +245,7 @@ module _ (meta : Maps) (doc : FunctionDocument) (d : Declarations) (body : Body)
   frame = frames_read_back body.objects body2.objects d.stack entries same_named
 
   abbrev declared2 : Declarations
-  declared2 = record { name = d.name; stack = entries_again body.objects d.stack; substitutions = d.substitutions; pool = [] }
+  declared2 = record { name = d.name; stack = entries_again body.objects d.stack; substitutions = d.substitutions; pool = []; exposure = Nothing }
 
   abbrev ids2 : List ℕ
   ids2 = ids_of_objects body2.objects declared2.stack
@@ -267,7 +270,7 @@ module _ (meta : Maps) (doc : FunctionDocument) (d : Declarations) (body : Body)
       let subs = substitutions_read_back (n + 2 + length printed.stack) d.substitutions (declares_small doc d declared).substitutions
       (substitutions_new doc d declared) in
       λ i. checked (earlier (earlier (earlier (name i).refused (stack i).refused) (earlier (no_fixed i) (subs i).refused)) None)
-      (record { name = (name i).name; stack = (stack i).entries; substitutions = (subs i).entries; pool = [] })
+      (record { name = (name i).name; stack = (stack i).entries; substitutions = (subs i).entries; pool = []; exposure = Nothing })
 
   -- ---- its close
 
@@ -295,12 +298,12 @@ module _ (meta : Maps) (doc : FunctionDocument) (d : Declarations) (body : Body)
       (are_known [] (blocks_of body2) && is_some (parts_of body2.objects declared2.stack (blocks_of body2))) branches all_entries
       (and_from (are_known [] (blocks_of body2)) (is_some (parts_of body2.objects declared2.stack (blocks_of body2))) constants accesses)
 
-  function_read : Parses meta doc2 (Ok (record { func = f; subs = d.substitutions }))
+  function_read : Parses meta doc2 (Ok (record { func = f; subs = d.substitutions; pool = []; exposure = Nothing }))
   function_read =
-      let answer : Result Parsed ParseError = Ok (record { func = f; subs = d.substitutions }) in
+      let answer : Result Parsed ParseError = Ok (record { func = f; subs = d.substitutions; pool = []; exposure = Nothing }) in
       subst (λ (r : Result Declarations Refusal). ParsesParts doc2.closed r (body_of false meta doc2.body) answer) (sym declares)
       (subst (λ (r : Result Body Refusal). ParsesParts doc2.closed (Ok declared2) r answer) (sym reads.read)
-      (none, sym same_function, refl, subst EndWell (sym blocks) closes.3))
+      (none, sym same_function, refl, subst EndWell (sym blocks) closes.3, refl, refl))
 
   is_document : IsDocument printed
   is_document = document_is f d.substitutions names.name frame.declared.each (declares_small doc d declared).substitutions small_ids all_writable
@@ -317,7 +320,7 @@ found_alone f is =
 read_as_printed : (meta : Maps) (doc : FunctionDocument) (d : Declarations) (body : Body) (p : Parsed) → declarations_of doc ≡ Ok d →
     doc.linked ≡ false → body_of false meta doc.body ≡ Ok body → Closes doc.closed d body (Ok p) → Parses meta doc (Ok p) →
     HasNamesOfBytes (function_of d body) →
-    IsReadAsPrinted meta (record { func = function_of d body; subs = d.substitutions })
+    IsReadAsPrinted meta (record { func = function_of d body; subs = d.substitutions; pool = []; exposure = Nothing })
 read_as_printed meta doc d body p declared plain read closes parses names =
     let whole = document_of (function_of d body) d.substitutions in
     record {
@@ -332,7 +335,10 @@ by_parts : (meta : Maps) (doc : FunctionDocument) (p : Parsed) (d : Result Decla
     HasNamesOfBytes p.func →
     IsReadAsPrinted meta p
 by_parts meta doc p (Ok d) (Ok body) declared plain read closes parses names =
-    let same : record { func = function_of d body; subs = d.substitutions } ≡ p = λ i. record { func = sym closes.1 i; subs = sym closes.2 i } in
+    let exposes : Nothing ≡ p.exposure = sym (closes.4 ∙ exposes_nothing doc d declared plain) in
+    let without : [] ≡ p.pool = sym (closes.5 ∙ plain_pool doc d declared plain) in
+    let same : record { func = function_of d body; subs = d.substitutions; pool = []; exposure = Nothing } ≡ p =
+    λ i. record { func = sym closes.1 i; subs = sym closes.2 i; pool = without i; exposure = exposes i } in
     subst (IsReadAsPrinted meta) same (read_as_printed meta doc d body p declared plain read closes parses (subst HasNamesOfBytes closes.1 names))
 by_parts meta doc p (Ok d) (Err s) declared plain read refused parses names = absurd refused
 by_parts meta doc p (Err r) (Ok body) declared plain read refused parses names = absurd refused

@@ -104,7 +104,7 @@ unfolding some_substitutions
 substitutions_fed [] = refl
 substitutions_fed (e ∷ es) = ap (λ (l : List ℕ). codes "debugValueSubstitutions:" ++ 10 ∷ [] ++ l) (entries_fed (e ∷ es))
 
-regrouped : (a b c d e f g h : List ℕ) → a ++ ((b ++ c) ++ (d ++ (e ++ (f ++ (g ++ h))))) ≡ a ++ b ++ c ++ d ++ e ++ f ++ g ++ h
+regrouped : (a b c d e f g h : List ℕ) → a ++ ((b ++ c) ++ (d ++ (e ++ (f ++ (g ++ h))))) ≡ a ++ b ++ c ++ (d ++ e ++ f ++ g ++ h)
 regrouped a b c d e f g h = simp append_assoc
 
 pub function_fed : (f : Function) (es : List DebugSubstitution) → text_of_lines (document_lines (document_of f es)) ≡ func_text f es

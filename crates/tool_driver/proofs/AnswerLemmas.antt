@@ -4,6 +4,7 @@ use Rattle.std.proofs.Common.{◌≡◌, ◌⊎◌, ℕ, List, refl, sym, subst,
 use Rattle.read_program.specs.declared.program.Program.{Program}
 use Rattle.cli.specs.declared.command.Command.{Command}
 use Rattle.cli.specs.declared.command.CompilePlan.{CompilePlan}
+use Rattle.cli.specs.declared.command.ObjectPlan.{ObjectPlan}
 use Rattle.cli.specs.declared.command.PassPipeline.{PassPipeline}
 use Rattle.cli.specs.declared.command.RunPlan.{RunPlan}
 use Rattle.cli.specs.declared.command.TestPlan.{TestPlan}
@@ -11,9 +12,8 @@ use Rattle.cli.specs.declared.command.Command.TheVariants.{Compile, Listing, Rep
 use Rattle.cli.specs.declared.fault.Fault.{Fault}
 use Rattle.cli.specs.declared.fault.Fault.TheVariants.{Usage, Read, TooLong, Refused, NoFunction, UnknownFunction}
 use Rattle.cli.specs.declared.fault.Fault.TheVariants.{NoRegister, FrameTooLarge, SymbolName, SectionTooLarge, Write, Memory}
-use Rattle.pass_trait.specs.Steps.{PassStep}
-use Rattle.run_command.specs.Source.{IsUnknown}
-use Rattle.run_command.specs.Program.{HasLargeSection, HasLargeFrameSection, HasLargeInlinedSection}
+use Rattle.selftest_command.specs.run_command.Source.{IsUnknown}
+use Rattle.selftest_command.specs.run_command.Program.{ExposedSteps, HasLargeSection, HasLargeFrameSection, HasLargeInlinedSection}
 use Rattle.tool_driver.specs.Answer.{is_linked, Answers, IsTestText}
 use Rattle.tool_driver.specs.Run.{HasReadProgram, AnswersRead, AnswersInput}
 use Rattle.tool_driver.specs.Refusals.{IsReader, IsNamed, plan_of, RefusesProgram, no_register, frame_too_large, section_too_large, frame_section_too_large}
@@ -87,7 +87,7 @@ pub compile_named : (asked : CompilePlan) (program : Program) → IsNamed (Compi
 compile_named asked program run same unknown = absurd cc
 
 -- a section is too large, one that is there only if it is asked for among them
-abbrev pub IsLargeAsAsked : CompilePlan → List PassStep → Program → Type 0
+abbrev pub IsLargeAsAsked : CompilePlan → ExposedSteps → Program → Type 0
 IsLargeAsAsked asked steps program = HasLargeSection steps program
     ⊎ (((asked.frame ≡ true) × HasLargeFrameSection steps program) ⊎ ((asked.inline ≡ true) × HasLargeInlinedSection steps program))
 
@@ -109,8 +109,8 @@ module _ (plan : PassPipeline) (program : Program) where
   report_named : IsNamed (Report plan) program
   report_named run same unknown = absurd cc
 
-  pub object_named : IsNamed (Object plan) program
-  object_named run same unknown = absurd cc
+pub object_named : (asked : ObjectPlan) (program : Program) → IsNamed (Object asked) program
+object_named asked program run same unknown = absurd cc
 
 -- a run compiles a program that has the function
 pub run_named : (run : RunPlan) (program : Program) → (IsUnknown run.name program.functions → ⊥) → IsNamed (Run run) program
@@ -148,13 +148,14 @@ module _ (plan : PassPipeline) (input : Change) (program : Program) (read : HasR
       held_back (Report plan) tt input program read fault
       (by_compiling (Report plan) program plan refl (report_named plan program) fault refused)
 
-  pub object_ok : (r : Result (List ℕ) Fault) → IfOk r (Answers (Object plan) program) → IfOk r (AnswersInput (Object plan) input)
-  object_ok (Ok output) answers = read_answers (Object plan) input program read output answers
+module _ (asked : ObjectPlan) (input : Change) (program : Program) (read : HasReadProgram asked.plan.linked input program) where
+  pub object_ok : (r : Result (List ℕ) Fault) → IfOk r (Answers (Object asked) program) → IfOk r (AnswersInput (Object asked) input)
+  object_ok (Ok output) answers = read_answers (Object asked) input program read output answers
   object_ok (Err fault) answers = tt
 
-  pub object_err : (r : Result (List ℕ) Fault) → IfErr r (RefusesToWrite (Object plan) program) → IfErr r (ReadingEnds (Object plan) input)
+  pub object_err : (r : Result (List ℕ) Fault) → IfErr r (RefusesToWrite (Object asked) program) → IfErr r (ReadingEnds (Object asked) input)
   object_err (Ok output) refused = tt
-  object_err (Err fault) refused = held_back (Object plan) tt input program read fault refused
+  object_err (Err fault) refused = held_back (Object asked) tt input program read fault refused
 
 module _ (run : RunPlan) (input : Change) (program : Program) (read : HasReadProgram run.plan.linked input program) where
   pub run_ok : (r : Result (List ℕ) Fault) → IfOk r (Answers (Run run) program) → IfOk r (AnswersInput (Run run) input)

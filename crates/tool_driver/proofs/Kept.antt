@@ -6,17 +6,16 @@ use Rattle.cli.specs.declared.command.CompilePlan.{CompilePlan}
 use Rattle.cli.specs.declared.command.Command.TheVariants.{Compile}
 use Rattle.cli.specs.Command.{IsCommand}
 use Rattle.listing_text.specs.declared.output.Output.{Output}
-use Rattle.pass_trait.specs.Steps.{PassStep}
 use Rattle.read_program.specs.declared.program.Program.{Program}
-use Rattle.compile_theorem.specs.Laws.{AreCompiledTo}
-use Rattle.compile_theorem.specs.OutputProperties.{Promises, IsExact, AreLaidOut}
-use Rattle.compile_theorem.specs.Words.{HaveWords}
-use Rattle.compile_theorem.proofs.HaveWords.{compiled_has_words}
-use Rattle.compile_theorem.proofs.Headline.{compiled_promises}
-use Rattle.compile_theorem.proofs.IsExact.{compiled_is_exact}
-use Rattle.compile_theorem.proofs.LaidOut.{compiled_is_laid_out, compiled_lists_passed}
-use Rattle.run_command.specs.Program.{sources_of, IsOutputOf, names_of}
-use Rattle.dwarf_sections.specs.Frame.{IsFrameSection}
+use Rattle.frame_theorem.specs.compile_theorem.Laws.{AreCompiledTo}
+use Rattle.frame_theorem.specs.compile_theorem.OutputProperties.{Promises, IsExact, AreLaidOut}
+use Rattle.frame_theorem.specs.compile_theorem.Words.{HaveWords}
+use Rattle.frame_theorem.proofs.compile_theorem.HaveWords.{compiled_has_words}
+use Rattle.frame_theorem.proofs.compile_theorem.Headline.{compiled_promises}
+use Rattle.frame_theorem.proofs.compile_theorem.IsExact.{compiled_is_exact}
+use Rattle.frame_theorem.proofs.compile_theorem.LaidOut.{compiled_is_laid_out, compiled_lists_passed}
+use Rattle.selftest_command.specs.run_command.Program.{ExposedSteps, sources_of, IsOutputOf, names_of}
+use Rattle.frame_theorem.specs.dwarf_sections.Frame.{IsFrameSection}
 use Rattle.frame_theorem.specs.Laws.{SparesKept}
 use Rattle.frame_theorem.specs.Unwinding.{AllUnwind}
 use Rattle.frame_theorem.proofs.Compiled.{compiled_unwinds}
@@ -38,7 +37,7 @@ none_undefined = All-weaker (Contains SAVED) (λ r. Contains [] r → ⊥) (λ r
 
 -- ---- an output of a program
 
-module _ (steps : List PassStep) (p : Program) (o : Output) (is : IsOutputOf steps p o) where
+module _ (steps : ExposedSteps) (p : Program) (o : Output) (is : IsOutputOf steps p o) where
   to : AreCompiledTo (names_of p.meta) is.functions o
   to = compiled_to steps p o is
 

@@ -13,3 +13,4 @@ mod Inputs
 pub use Rattle.gen_sizes.proofs.Frames
 pub use Rattle.gen_sizes.proofs.Registers
 pub use Rattle.gen_sizes.proofs.Sections
+pub use Rattle.compile_output_proof.proofs.scan_pass as scan_pass

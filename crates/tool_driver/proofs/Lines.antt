@@ -12,12 +12,12 @@ use Rattle.dwarf_line_table.proofs.LineTables.{tables_give_lines, nothing_outsid
 use Rattle.dwarf_line_table.specs.Laws.{LieFrom}
 use Rattle.mir_func.specs.Function.{Function, FramedFunction}
 use Rattle.read_metadata.specs.Maps.{Maps}
-use Rattle.compile_theorem.specs.Source.{PassedFunction}
-use Rattle.run_command.specs.Program.{AreCoded, HasSections, Describe}
+use Rattle.frame_theorem.specs.compile_theorem.Source.{PassedFunction}
+use Rattle.selftest_command.specs.run_command.Program.{AreCoded, HasSections, Describe}
 use Rattle.dwarf_line.specs.Spelling.{spelling as rows_spelling}
 use Rattle.dwarf_line_table.specs.Program.{table_with}
 use Rattle.dwarf_line_table.proofs.SourceTables.{no_further}
-use Rattle.dwarf_unit.specs.Inlined.{call_scopes}
+use Rattle.frame_theorem.specs.dwarf_unit.Inlined.{call_scopes}
 use Rattle.dwarf_line_table.specs.declared.source_and_code.SourceAndCode.{SourceAndCode}
 use Rattle.tool_driver.specs.Lines.{GivesLines}
 

@@ -44,7 +44,9 @@ same_parts : (line : ℕ) (declared : Result Declarations Refusal) (body : Resul
 same_parts line (Ok d) (Ok body) p q a b =
     let func : p.func ≡ q.func = a.1 ∙ sym b.1 in
     let subs : p.subs ≡ q.subs = a.2 ∙ sym b.2 in
-    λ i. record { func = func i; subs = subs i }
+    let exposes : p.exposure ≡ q.exposure = a.4 ∙ sym b.4 in
+    let pool : p.pool ≡ q.pool = a.5 ∙ sym b.5 in
+    λ i. record { func = func i; subs = subs i; pool = pool i; exposure = exposes i }
 same_parts line (Err s) (Ok body) p q a b = absurd a
 same_parts line (Ok d) (Err s) p q a b = absurd a
 same_parts line (Err s) (Err t) p q a b = absurd a

@@ -20,8 +20,8 @@ use Rattle.read_program.specs.declared.program.Program.{Program}
 use Rattle.read_program.specs.Program.{ReadsText}
 use Rattle.listing_text.specs.declared.output.Output.{Output}
 use Rattle.compile_output_proof.proofs.Functions.{printable}
-use Rattle.run_command.specs.Program.{IsOutputOf}
-use Rattle.read_proof.proofs.Texts.{programs_are_as_read}
+use Rattle.selftest_command.specs.run_command.Program.{IsOutputOf}
+use Rattle.readback_strip.proofs.read_proof.Texts.{programs_are_as_read}
 use Rattle.tool_driver.specs.Limits.{INPUT_LIMIT}
 use Rattle.tool_driver.specs.Compiled.{IsCompiledText, plan_steps}
 use Rattle.tool_driver.specs.Answer.{is_linked, HasFunctions}

@@ -5,36 +5,35 @@ use Rattle.listing_text.specs.declared.output.ListedFunction.{ListedFunction}
 use Rattle.listing_text.specs.declared.output.Output.{Output}
 use Rattle.listing_text.specs.Shown.{Shows, OfShown}
 use Rattle.listing_text.proofs.OneOutput.{one_reading}
-use Rattle.pass_trait.specs.Steps.{PassStep}
 use Rattle.value_proof.proofs.Keeping.{kept_values_are_wanted}
-use Rattle.listing_proof.specs.Laws.{inlined_in}
+use Rattle.compile_output_proof.specs.listing_proof.Laws.{inlined_in}
 use Rattle.read_program.specs.declared.program.Program.{Program}
 use Rattle.compile_output_proof.specs.Laws.{OutputsArePrintable}
-use Rattle.compile_theorem.specs.Laws.{AreCompiledTo}
-use Rattle.compile_theorem.specs.OutputProperties.{Promises, IsExactFor, IsExact}
-use Rattle.compile_theorem.specs.Source.{SourceFunction, sources_among}
-use Rattle.listing_meaning.specs.Program.{program_shown}
-use Rattle.run_command.specs.Program.{sources_of, IsOutputOf, names_of}
-use Rattle.run_command.proofs.Passed.{all_passed, passed_sources}
-use Rattle.read_proof.specs.Read.{IsReadProgram}
+use Rattle.frame_theorem.specs.compile_theorem.Laws.{AreCompiledTo}
+use Rattle.frame_theorem.specs.compile_theorem.OutputProperties.{Promises, IsExactFor, IsExact}
+use Rattle.frame_theorem.specs.compile_theorem.Source.{SourceFunction, sources_among}
+use Rattle.object_command.specs.listing_meaning.Program.{program_shown}
+use Rattle.selftest_command.specs.run_command.Program.{ExposedSteps, sources_of, IsOutputOf, names_of}
+use Rattle.selftest_command.proofs.run_command.Passed.{all_passed, passed_sources}
+use Rattle.readback_strip.specs.read_proof.Read.{IsReadProgram}
 use Rattle.tool_driver.specs.Compiled.{IsCompiledText}
 use Rattle.tool_driver.specs.FurtherPromises.{AllGiveBack, AllStopWell, ListsKept, AllListKept}
 
 -- ---- the sources
 
-pub compiled_to : (steps : List PassStep) (program : Program) (o : Output) (is : IsOutputOf steps program o) →
+pub compiled_to : (steps : ExposedSteps) (program : Program) (o : Output) (is : IsOutputOf steps program o) →
     AreCompiledTo (names_of program.meta) is.functions o
 compiled_to steps program o is =
     record { passed = all_passed program.meta program.functions is.functions is.passed; compiled = is.compiled }
 
 -- what holds of the sources of what passes made holds of the functions that were read
-pub of_read : (P : List SourceFunction → Type 0) (steps : List PassStep) (program : Program) (o : Output) (is : IsOutputOf steps program o) →
+pub of_read : (P : List SourceFunction → Type 0) (steps : ExposedSteps) (program : Program) (o : Output) (is : IsOutputOf steps program o) →
     P (sources_among is.functions) → P (sources_of program.functions)
 of_read P steps program o is holds = subst P (sym (passed_sources program.meta program.functions is.functions is.passed)) holds
 
 -- ---- what the text shows
 
-module _ (printable : OutputsArePrintable) (with_frame with_inline : Bool) (steps : List PassStep) (program : Program) (text : List ℕ)
+module _ (printable : OutputsArePrintable) (with_frame with_inline : Bool) (steps : ExposedSteps) (program : Program) (text : List ℕ)
     (read : IsReadProgram program) (is : IsCompiledText with_frame with_inline steps program text) where
   shows : Shows (inlined_in program.meta) text is.output
   shows = record { spelled = is.spelled; printable = printable program is.is.functions is.output read is.is.passed is.is.compiled is.is.sections }

@@ -4,13 +4,13 @@ use Rattle.cli.specs.declared.command.Command.{Command}
 use Rattle.cli.specs.declared.command.Command.TheVariants.{Strip}
 use Rattle.cli.specs.Command.{IsCommand}
 use Rattle.cli.proofs.CommandWords.{one_command}
-use Rattle.readback_functions.specs.Bytes.{AreBytes}
-use Rattle.readback_functions.specs.Stripped.{reread}
+use Rattle.readback_strip.specs.readback_functions.Bytes.{AreBytes}
+use Rattle.readback_strip.specs.readback_functions.Stripped.{reread}
 use Rattle.read_program.specs.declared.closing.Parsed.{Parsed}
 use Rattle.read_program.specs.declared.program.Program.{Program}
 use Rattle.readback_strip.proofs.Texts.{stripped_texts_are_read}
 use Rattle.readback_strip.specs.Text.{stripped_program, IsReadStripped}
-use Rattle.strip_command.specs.StripText.{stripped_text}
+use Rattle.readback_strip.specs.strip_command.StripText.{stripped_text}
 use Rattle.tool_driver.specs.Answer.{HasFunctions}
 use Rattle.tool_driver.specs.Run.{Finishes, AnswersRead, AnswersInput, IsReadAgain, WroteStripped}
 use Rattle.tool_driver.specs.Stream.{Change, IsWrittenWhole}

@@ -1,16 +1,35 @@
 -- What the commands that report, that run and that test wrote, and that which writes an object.
-use Rattle.std.proofs.Common.{◌≡◌, ℕ, List, subst}
+use Rattle.std.proofs.Common.{◌≡◌, ℕ, List, Option, Some, None, subst}
 use Rattle.cli.specs.declared.command.Command.{Command}
+use Rattle.cli.specs.declared.command.LinkableForm.{LinkableForm}
+use Rattle.cli.specs.declared.command.ObjectPlan.{ObjectPlan}
 use Rattle.cli.specs.declared.command.PassPipeline.{PassPipeline}
 use Rattle.cli.specs.declared.command.RunPlan.{RunPlan}
 use Rattle.cli.specs.declared.command.TestPlan.{TestPlan}
 use Rattle.cli.specs.declared.command.Command.TheVariants.{Report, Object, Run, SelfTest}
 use Rattle.cli.specs.Command.{IsCommand}
 use Rattle.cli.proofs.CommandWords.{one_command}
-use Rattle.tool_driver.specs.Run.{Finishes, AnswersRead, AnswersInput, WroteReport, WroteObject, WroteRun, WroteTest}
-use Rattle.tool_driver.specs.Compiled.{plan_steps}
+use Rattle.read_program.specs.declared.program.Program.{Program}
+use Rattle.tool_driver.specs.Run.{Finishes, AnswersRead, AnswersInput, WroteReport, WroteObject, WroteRun, WroteTest, IsKeptAsked}
+use Rattle.tool_driver.specs.Compiled.{plan_steps, IsObjectAsked}
 use Rattle.tool_driver.specs.Stream.{Change}
 use Rattle.tool_driver.proofs.Kept.{keeps_promises}
+
+-- an object in the form that is asked for is one of an output that keeps the promises
+kept_asked : (form : Option LinkableForm) (plan : PassPipeline) (p : Program) (bytes : List ℕ) → IsObjectAsked form plan p bytes
+    → IsKeptAsked form plan p bytes
+kept_asked None plan p bytes file = record {
+  made = file.output;
+  is = file.is;
+  promises = keeps_promises (plan_steps plan) p file.output file.is.made;
+  object = file.object;
+}
+kept_asked (Some form) plan p bytes file = record {
+  compilation = file.compilation;
+  by_plan = file.by_plan;
+  promises = keeps_promises (plan_steps plan) p file.compilation.output file.by_plan.is.made;
+  is = file.object;
+}
 
 module _ (words : List (List ℕ)) (input output : Change) (finished : Finishes words input output) where
   -- what the command that is asked for writes was written
@@ -33,22 +52,16 @@ module _ (words : List (List ℕ)) (input output : Change) (finished : Finishes 
         written = finished.written;
       }
 
-  pub wrote_object : (plan : PassPipeline) → IsCommand words (Object plan) → WroteObject plan input output
-  wrote_object plan asked =
-      let answers : AnswersRead (Object plan) input finished.text = answers_asked (Object plan) asked in
-      let file = answers.answers.answers in
+  pub wrote_object : (asked : ObjectPlan) → IsCommand words (Object asked) → WroteObject asked input output
+  wrote_object asked is =
+      let answers : AnswersRead (Object asked) input finished.text = answers_asked (Object asked) is in
       record {
         text = answers.text;
         read = answers.read;
         program = answers.answers.program;
         has = answers.answers.has;
         bytes = finished.text;
-        is = record {
-          made = file.output;
-          is = file.is;
-          promises = keeps_promises (plan_steps plan) answers.answers.program file.output file.is.made;
-          object = file.object;
-        };
+        is = kept_asked asked.form asked.plan answers.answers.program finished.text answers.answers.answers;
         written = finished.written;
       }
 

@@ -2,21 +2,21 @@
 use Rattle.std.specs.Prelude.{◌≡◌, Bool, false, ◌≢◌, ℕ, List, [], Ok}
 use Rattle.read_program.specs.declared.program.Program.{Program}
 use Rattle.read_program.specs.Program.{ReadsText}
-use Rattle.strip_command.specs.StripText.{stripped_text}
+use Rattle.readback_strip.specs.strip_command.StripText.{stripped_text}
 use Rattle.cli.specs.declared.command.Command.{Command}
 use Rattle.cli.specs.declared.command.Command.TheVariants.{Compile, Listing, Report, Object, Run, Strip, Gen, SelfTest}
 use Rattle.cli.specs.declared.command.TestPlan.{TestPlan}
 use Rattle.report_command.specs.ProgramReport.{IsReportText}
-use Rattle.run_command.specs.Source.{IsRunOfProgram}
+use Rattle.selftest_command.specs.run_command.Source.{IsRunOfProgram}
 use Rattle.selftest_command.specs.Tested.{IsSelfTestOf}
-use Rattle.tool_driver.specs.Compiled.{plan_steps, IsCompiledText, IsListingText, IsObjectFile}
+use Rattle.tool_driver.specs.Compiled.{plan_steps, IsCompiledText, IsListingText, IsObjectAsked}
 
 -- whether a command reads the linked language
 abbrev pub is_linked : Command → Bool
 is_linked (Compile asked) = asked.plan.linked
 is_linked (Listing plan) = plan.linked
 is_linked (Report plan) = plan.linked
-is_linked (Object plan) = plan.linked
+is_linked (Object asked) = asked.plan.linked
 is_linked (Run run) = run.plan.linked
 is_linked (Strip linked) = linked
 is_linked (Gen g) = false
@@ -32,7 +32,7 @@ abbrev pub Answers : Command → Program → (output : List ℕ) → Type 0
 Answers (Compile asked) program output = IsCompiledText asked.frame asked.inline (plan_steps asked.plan) program output
 Answers (Listing plan) program output = IsListingText (plan_steps plan) program output
 Answers (Report plan) program output = IsReportText plan.reserve plan.passes program output
-Answers (Object plan) program output = IsObjectFile (plan_steps plan) program output
+Answers (Object asked) program output = IsObjectAsked asked.form asked.plan program output
 Answers (Run run) program output = IsRunOfProgram (plan_steps run.plan) program run.name run.steps run.symbols run.arguments run.answers output
 Answers (Strip linked) program output = output ≡ stripped_text program.functions
 Answers (Gen g) program output = ⊥

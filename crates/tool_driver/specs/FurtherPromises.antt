@@ -19,9 +19,9 @@ use Rattle.sem_machine.specs.MachineStep.{Comes, Ends, IsWell, machine_step}
 use Rattle.listing_text.specs.declared.output.ListedFunction.{ListedFunction}
 use Rattle.listing_text.specs.declared.output.Output.{Output}
 use Rattle.value_proof.specs.Kept.{IsToldAndKept}
-use Rattle.compile_theorem.specs.OutputProperties.{Gives}
-use Rattle.compile_theorem.specs.Source.{SourceFunction, OfEach}
-use Rattle.listing_meaning.specs.Program.{IsListedAt, image_of, program_shown}
+use Rattle.frame_theorem.specs.compile_theorem.OutputProperties.{Gives}
+use Rattle.frame_theorem.specs.compile_theorem.Source.{SourceFunction, OfEach}
+use Rattle.object_command.specs.listing_meaning.Program.{IsListedAt, image_of, program_shown}
 use Rattle.frame_theorem.specs.Unwinding.{AllUnwind}
 
 -- from every start, for every script of call answers and every number of steps: if the machine on a function's image ends on a way that leads back to

@@ -7,8 +7,8 @@ use Rattle.dwarf_line.specs.Spelling.{spelling as rows_spelling}
 use Rattle.dwarf_line_table.specs.Laws.{HasCodeAt}
 use Rattle.dwarf_line_table.specs.Rows.{GivesLine, IsRowAt}
 use Rattle.read_metadata.specs.Maps.{Maps}
-use Rattle.compile_theorem.specs.Source.{PassedFunction}
-use Rattle.run_command.specs.Program.{HaveCode}
+use Rattle.frame_theorem.specs.compile_theorem.Source.{PassedFunction}
+use Rattle.selftest_command.specs.run_command.Program.{HaveCode}
 use Rattle.dwarf_line_table.specs.declared.source_and_code.SourceAndCode.{SourceAndCode}
 use Rattle.dwarf_line_table.specs.Program.{program_file, table_with}
 use Rattle.dwarf_line_table.specs.Table.{entry_line}

@@ -4,10 +4,11 @@ use Rattle.read_refusal.specs.declared.first.Refusal.{Refusal}
 use Rattle.read_program.specs.declared.program.Program.{Program}
 use Rattle.read_program.specs.declared.error.ParseError.TheVariants as errors
 use Rattle.read_program.specs.Program.{ReadsText}
-use Rattle.run_command.specs.Program.{HaveRegisters, HasVirtualRegister, HasLargeFrame, HasLargeSection, HasLargeFrameSection, HasLargeInlinedSection}
+use Rattle.selftest_command.specs.run_command.Program.{HaveRegisters, HasVirtualRegister, HasLargeFrame, HasLargeSection, HasLargeFrameSection, HasLargeInlinedSection}
 use Rattle.cli.specs.declared.command.Command.{Command}
 use Rattle.cli.specs.declared.fault.Fault.{Fault}
 use Rattle.cli.specs.declared.command.CompilePlan.{CompilePlan}
+use Rattle.cli.specs.declared.command.ObjectPlan.{ObjectPlan}
 use Rattle.cli.specs.declared.command.PassPipeline.{PassPipeline}
 use Rattle.cli.specs.declared.command.RunPlan.{RunPlan}
 use Rattle.cli.specs.declared.command.TestPlan.{TestPlan}
@@ -17,9 +18,9 @@ use Rattle.cli.specs.declared.command.Command.TheVariants.{Compile, Listing, Rep
 use Rattle.cli.specs.declared.fault.Fault.TheVariants.{TooLong, Refused, NoFunction, UnknownFunction, NoRegister, FrameTooLarge, SymbolName}
 use Rattle.cli.specs.declared.fault.Fault.TheVariants.{SectionTooLarge}
 use Rattle.cli_numbers.specs.declared.generation.Generation.{Generation}
-use Rattle.run_command.specs.Source.{IsUnknown}
+use Rattle.selftest_command.specs.run_command.Source.{IsUnknown}
 use Rattle.tool_driver.specs.Limits.{INPUT_LIMIT}
-use Rattle.tool_driver.specs.Compiled.{plan_steps, HasInvalidName, IsLargeObjectOf}
+use Rattle.tool_driver.specs.Compiled.{plan_steps, HasInvalidNameAsked, IsLargeObjectAsked}
 use Rattle.tool_driver.specs.Stream.{Change, IsReadFor, IsTold}
 use Rattle.tool_driver.specs.Answer.{is_linked, HasFunctions}
 use Rattle.tool_driver.specs.Run.{HasRead, HasReadProgram}
@@ -29,7 +30,7 @@ abbrev pub IsReader : Command → Type 0
 IsReader (Compile plan) = Unit {0}
 IsReader (Listing plan) = Unit {0}
 IsReader (Report plan) = Unit {0}
-IsReader (Object plan) = Unit {0}
+IsReader (Object asked) = Unit {0}
 IsReader (Run run) = Unit {0}
 IsReader (Strip linked) = Unit {0}
 IsReader (Gen g) = ⊥
@@ -54,7 +55,7 @@ abbrev pub plan_of : Command → Option PassPipeline
 plan_of (Compile asked) = Some asked.plan
 plan_of (Listing plan) = Some plan
 plan_of (Report plan) = Some plan
-plan_of (Object plan) = Some plan
+plan_of (Object asked) = Some asked.plan
 plan_of (Run run) = Some run.plan
 plan_of (Strip linked) = None
 plan_of (Gen g) = None
@@ -79,9 +80,10 @@ pub data RefusesProgram (command : Command) (program : Program) : Fault → Type
       RefusesProgram command program SectionTooLarge
   inlined_section_too_large : (asked : CompilePlan) → command ≡ Compile asked → asked.inline ≡ true →
       HasLargeInlinedSection (plan_steps asked.plan) program → RefusesProgram command program SectionTooLarge
-  object_too_large : (plan : PassPipeline) → command ≡ Object plan → IsLargeObjectOf (plan_steps plan) program →
+  object_too_large : (asked : ObjectPlan) → command ≡ Object asked → IsLargeObjectAsked asked.form asked.plan program →
       RefusesProgram command program SectionTooLarge
-  no_symbol_name : (plan : PassPipeline) → command ≡ Object plan → HasInvalidName (plan_steps plan) program → RefusesProgram command program SymbolName
+  no_symbol_name : (asked : ObjectPlan) → command ≡ Object asked → HasInvalidNameAsked asked.form asked.plan program →
+      RefusesProgram command program SymbolName
 
 -- Why a command is refused: its input is too long, is refused at a line or has no function; or the program that was read is refused.
 pub data Refuses (command : Command) (input : Change) : Fault → Type 0 where

@@ -1,30 +1,33 @@
 -- What a run of the tool did to its input and its output.
-use Rattle.std.specs.Prelude.{◌≡◌, ℕ, ◌≤◌, Bool, false, List, length, All, IfSome, is_some}
+use Rattle.std.specs.Prelude.{◌≡◌, ℕ, ◌≤◌, Bool, false, List, length, All, Option, Some, None, IfSome, is_some}
 use Rattle.listing_text.specs.declared.output.Output.{Output}
-use Rattle.pass_trait.specs.Steps.{PassStep}
 use Rattle.listing_text.specs.Shown.{OfShown}
-use Rattle.listing_proof.specs.Laws.{inlined_in}
+use Rattle.compile_output_proof.specs.listing_proof.Laws.{inlined_in}
 use Rattle.read_program.specs.declared.program.Program.{Program}
 use Rattle.cli.specs.declared.command.Command.{Command}
 use Rattle.cli.specs.declared.command.Command.TheVariants.{Compile, Listing, Report, Object, Run, Strip, Gen, SelfTest}
+use Rattle.cli.specs.declared.command.LinkableForm.{LinkableForm}
+use Rattle.cli.specs.declared.command.ObjectPlan.{ObjectPlan}
 use Rattle.cli.specs.declared.command.PassPipeline.{PassPipeline}
 use Rattle.cli.specs.declared.command.RunPlan.{RunPlan}
 use Rattle.cli.specs.declared.command.TestPlan.{TestPlan}
 use Rattle.cli.specs.Command.{IsCommand}
 use Rattle.report_command.specs.ProgramReport.{IsReportText}
-use Rattle.run_command.specs.Source.{IsRunOfProgram}
+use Rattle.selftest_command.specs.run_command.Source.{IsRunOfProgram}
 use Rattle.gen_text.specs.GeneratedText.{generated_text}
-use Rattle.readback_functions.specs.Bytes.{AreBytes}
+use Rattle.readback_strip.specs.readback_functions.Bytes.{AreBytes}
 use Rattle.readback_strip.specs.Text.{stripped_program}
-use Rattle.strip_command.specs.StripText.{stripped_text}
+use Rattle.readback_strip.specs.strip_command.StripText.{stripped_text}
 use Rattle.tool_driver.specs.Limits.{INPUT_LIMIT}
-use Rattle.tool_driver.specs.Compiled.{plan_steps, IsPlainOutputOf}
+use Rattle.linkable_program.specs.Program.{IsLinkableOf}
+use Rattle.tool_driver.specs.Compiled.{plan_steps, flags_of, IsPlainOutputOf, IsCompiledBy}
 use Rattle.tool_driver.specs.Answer.{HasFunctions, AnswersText, IsTestText}
-use Rattle.compile_theorem.specs.OutputProperties.{AreLaidOut, Promises, IsExact, ListsPassed}
-use Rattle.compile_theorem.specs.Source.{PassedFunction}
-use Rattle.compile_theorem.specs.Words.{HaveWords}
+use Rattle.frame_theorem.specs.compile_theorem.OutputProperties.{AreLaidOut, Promises, IsExact, ListsPassed}
+use Rattle.frame_theorem.specs.compile_theorem.Source.{PassedFunction}
+use Rattle.frame_theorem.specs.compile_theorem.Words.{HaveWords}
 use Rattle.object_command.specs.Object.{IsObjectOf}
-use Rattle.run_command.specs.Program.{sources_of, ArePassed, HasSections, IsMadeBy, names_of}
+use Rattle.selftest_command.specs.run_command.Runs.{Compilation}
+use Rattle.selftest_command.specs.run_command.Program.{ExposedSteps, sources_of, ArePassed, HasSections, IsMadeBy, names_of}
 use Rattle.compile_output_proof.specs.Inlined.{TellsInlinedLines}
 use Rattle.tool_driver.specs.Lines.{GivesLines}
 use Rattle.tool_driver.specs.FurtherPromises.{AllGiveBack, AllStopWell, FramesUnwind, AllListKept}
@@ -57,7 +60,7 @@ abbrev pub AnswersInput : Command → (input : Change) → (output : List ℕ) �
 AnswersInput (Compile plan) input output = AnswersRead (Compile plan) input output
 AnswersInput (Listing plan) input output = AnswersRead (Listing plan) input output
 AnswersInput (Report plan) input output = AnswersRead (Report plan) input output
-AnswersInput (Object plan) input output = AnswersRead (Object plan) input output
+AnswersInput (Object asked) input output = AnswersRead (Object asked) input output
 AnswersInput (Run run) input output = AnswersRead (Run run) input output
 AnswersInput (Strip linked) input output = AnswersRead (Strip linked) input output
 AnswersInput (Gen g) input output = IsUnread input × (output ≡ generated_text g.number g.blocks)
@@ -132,7 +135,7 @@ WroteWords linked input output = HasWritten linked (λ p. HaveWords) input outpu
 -- and its substitutions. The `.debug_info`, abbreviation and line sections are the encodings of the program's unit and line table, and `.debug_frame`, if
 -- there is one, that of the call frame information of the machine code; the line table has for each byte of machine code its line of the source, and no row
 -- for another address. Where inlined functions are asked for, the range list of an instance covers exactly the listed lines that were inlined through its call.
-pub record ShowsPassed (steps : List PassStep) (p : Program) (o : Output) : Type 0 where
+pub record ShowsPassed (steps : ExposedSteps) (p : Program) (o : Output) : Type 0 where
   pub functions : List PassedFunction
   pub passed : ArePassed p.meta p.functions functions
   pub made : All (IsMadeBy steps) functions
@@ -150,7 +153,7 @@ abbrev pub WroteRangesSection : (linked with_inline : Bool) → (input output : 
 WroteRangesSection linked with_inline input output = HasWritten linked (λ p o. is_some o.ranges ≡ with_inline) input output
 
 -- the whole text of one such output was written
-abbrev pub WrotePassed : (linked : Bool) → List PassStep → (input output : Change) → Type 0
+abbrev pub WrotePassed : (linked : Bool) → ExposedSteps → (input output : Change) → Type 0
 WrotePassed linked steps input output = HasWritten linked (ShowsPassed steps) input output
 
 -- the input was read as a program with a function, and the bytes written are the text `Is` requires for it
@@ -165,7 +168,7 @@ pub record WroteText (linked : Bool) (Is : Program → (text : List ℕ) → Typ
 
 -- An output of a program after these steps keeps the promises of what `compile` writes: those of its runs, of its call frame information, of its
 -- location lists, of its layout, of its words and of the functions that it shows.
-pub record KeepsPromises (steps : List PassStep) (p : Program) (o : Output) : Type 0 where
+pub record KeepsPromises (steps : ExposedSteps) (p : Program) (o : Output) : Type 0 where
   pub headline : Promises (sources_of p.functions) o
   pub callee_saved : AllGiveBack (sources_of p.functions) o
   pub stops : AllStopWell (sources_of p.functions) o
@@ -177,15 +180,26 @@ pub record KeepsPromises (steps : List PassStep) (p : Program) (o : Output) : Ty
   pub passed : ShowsPassed steps p o
 
 -- The bytes are the object of an output of the program after these steps, without `.debug_frame` and inlined functions, which keeps the promises.
-pub record IsKeptObject (steps : List PassStep) (p : Program) (bytes : List ℕ) : Type 0 where
+pub record IsKeptObject (steps : ExposedSteps) (p : Program) (bytes : List ℕ) : Type 0 where
   pub made : Output
   pub is : IsPlainOutputOf steps p made
   pub promises : KeepsPromises steps p made
   pub object : IsObjectOf made bytes
 
--- the object of the functions after the plan's passes was written
-abbrev pub WroteObject : PassPipeline → (input output : Change) → Type 0
-WroteObject plan input output = WroteText plan.linked (IsKeptObject (plan_steps plan)) input output
+-- the bytes are the object that a linker places of the program, compiled by a plan to an output that keeps the promises
+pub record IsKeptLinkable (form : LinkableForm) (plan : PassPipeline) (p : Program) (bytes : List ℕ) : Type 0 where
+  pub compilation : Compilation
+  pub by_plan : IsCompiledBy plan p compilation
+  pub promises : KeepsPromises (plan_steps plan) p compilation.output
+  pub is : IsLinkableOf p compilation form.frame (flags_of form) bytes
+
+abbrev pub IsKeptAsked : Option LinkableForm → PassPipeline → Program → (bytes : List ℕ) → Type 0
+IsKeptAsked None plan p bytes = IsKeptObject (plan_steps plan) p bytes
+IsKeptAsked (Some form) plan p bytes = IsKeptLinkable form plan p bytes
+
+-- the object of the functions after the plan's passes was written, in the form that is asked for
+abbrev pub WroteObject : ObjectPlan → (input output : Change) → Type 0
+WroteObject asked input output = WroteText asked.plan.linked (IsKeptAsked asked.form asked.plan) input output
 
 -- the report of the functions after the plan's passes was written
 abbrev pub WroteReport : PassPipeline → (input output : Change) → Type 0

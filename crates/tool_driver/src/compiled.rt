@@ -1,27 +1,30 @@
 //! The output texts of the commands that compile.
 
-ghost use Rattle.std.specs.Prelude.{◌≡◌, true, false, is_some, IfOk, IfErr};
+ghost use Rattle.std.specs.Prelude.{◌≡◌, true, false, Some, None, is_some, IfOk, IfErr};
 ghost use Rattle.report_command.specs.ProgramReport.{IsReportText};
-ghost use Rattle.run_command.specs.Source.{IsRunOfProgram};
+ghost use Rattle.selftest_command.specs.run_command.Source.{IsRunOfProgram};
 ghost use Rattle.cli.specs.Command.{IsWithin};
 ghost use Rattle.cli.specs.declared.command.Command.TheVariants as command;
 ghost use Rattle.tool_driver.specs.Answer.{IsTestText};
 ghost use Rattle.tool_driver.specs.steps.Ends.{RefusesToCompile, RefusesToWrite};
-ghost use Rattle.tool_driver.specs.Compiled.{plan_steps, IsPlainOutputOf, IsCompiledText, IsListingText, IsObjectFile};
-ghost use Rattle.run_command.specs.Program.{IsOutputOf, IsCompilationOf};
-ghost use Rattle.read_proof.specs.Read.{IsReadProgram};
+ghost use Rattle.tool_driver.specs.Compiled.{flags_of, plan_steps, IsCompiledBy, IsPlainOutputOf, IsCompiledText};
+ghost use Rattle.tool_driver.specs.Compiled.{IsListingText, IsObjectAsked};
+ghost use Rattle.selftest_command.specs.run_command.Program.{IsOutputOf, IsCompilationOf};
+ghost use Rattle.readback_strip.specs.read_proof.Read.{IsReadProgram};
 
-use cli::command::{CompilePlan, PassPipeline, RunPlan, TestPlan};
+use cli::command::{CompilePlan, LinkableForm, ObjectPlan, PassPipeline, RunPlan, TestPlan};
 use cli::fault::Fault;
+use elf_object::constants::EF_RISCV_FLOAT_ABI_DOUBLE;
+use linkable_program::program::linkable_of;
 use listing_text::print::{print_listing, print_output};
 use mir_printer::text::Text;
 use object_command::object::{ObjectError, object};
 use read_program::program::Program;
 use report_command::report::report;
-use run_command::compile::{Compilation, compile, compile_with};
-use run_command::error::CompileError;
-use run_command::name::is_unknown;
-use run_command::run::run;
+use selftest_command::run_command_crate::compile::{Compilation, compile, compile_with};
+use selftest_command::run_command_crate::error::CompileError;
+use selftest_command::run_command_crate::name::is_unknown;
+use selftest_command::run_command_crate::run::run;
 use selftest_command::text::self_test;
 use std::alloc::Global;
 
@@ -56,14 +59,17 @@ pub fn report_text(alloc: Global, program: &Program, plan: &PassPipeline) -> Res
     Ok(report(alloc, &compilation)?)
 }
 
-/// The bytes of `object`: the object of a program after passes.
-pub fn object_file(alloc: Global, program: &Program, plan: &PassPipeline) -> Result<Text, Fault>
+/// The bytes of `object`: the object of a program after passes, in the form that is asked for.
+pub fn object_text(alloc: Global, program: &Program, asked: &ObjectPlan) -> Result<Text, Fault>
     requires { IsReadProgram program.now }
-    ensures ok { IfOk result (IsObjectFile (plan_steps plan.now) program.now) }
-    ensures err { IfErr result (RefusesToWrite (command.Object plan.now) program.now) }
+    ensures ok { IfOk result (IsObjectAsked asked.now.form asked.now.plan program.now) }
+    ensures err { IfErr result (RefusesToWrite (command.Object asked.now) program.now) }
 {
-    match compilation(alloc, program, plan) {
-        Ok(compilation) => object_in(alloc, program, plan, compilation),
+    match compilation(alloc, program, &asked.plan) {
+        Ok(compilation) => match asked.form {
+            None => object_in(alloc, program, asked, compilation),
+            Some(form) => linkable_in(alloc, program, asked, form, compilation),
+        },
         Err(fault) => Err(fault),
     }
 }
@@ -72,12 +78,13 @@ pub fn object_file(alloc: Global, program: &Program, plan: &PassPipeline) -> Res
 fn object_in(
     alloc: Global,
     _program: &Program,
-    _plan: &PassPipeline,
+    _asked: &ObjectPlan,
     compilation: Compilation,
 ) -> Result<Text, Fault>
-    requires { IsPlainOutputOf (plan_steps _plan.now) _program.now compilation.output }
-    ensures ok { IfOk result (IsObjectFile (plan_steps _plan.now) _program.now) }
-    ensures err { IfErr result (RefusesToWrite (command.Object _plan.now) _program.now) }
+    requires form { _asked.now.form ≡ None }
+    requires output { IsPlainOutputOf (plan_steps _asked.now.plan) _program.now compilation.output }
+    ensures ok { IfOk result (IsObjectAsked _asked.now.form _asked.now.plan _program.now) }
+    ensures err { IfErr result (RefusesToWrite (command.Object _asked.now) _program.now) }
 {
     let Compilation {
         output,
@@ -88,6 +95,47 @@ fn object_in(
         Err(ObjectError::SymbolName) => Err(Fault::SymbolName),
         Err(ObjectError::TooLarge) => Err(Fault::SectionTooLarge),
         Err(ObjectError::Memory) => Err(Fault::Memory),
+    }
+}
+
+/// The object of a compiled program that a linker places.
+fn linkable_in(
+    alloc: Global,
+    program: &Program,
+    asked: &ObjectPlan,
+    form: LinkableForm,
+    compilation: Compilation,
+) -> Result<Text, Fault>
+    requires read { IsReadProgram program.now }
+    requires form { asked.now.form ≡ Some form }
+    requires compilation { IsCompiledBy asked.now.plan program.now compilation }
+    ensures ok { IfOk result (IsObjectAsked asked.now.form asked.now.plan program.now) }
+    ensures err { IfErr result (RefusesToWrite (command.Object asked.now) program.now) }
+{
+    match linkable_of(
+        alloc,
+        program,
+        compilation,
+        form.frame,
+        flags_of(form),
+        asked.plan.passes.as_slice(),
+        asked.plan.reserve.as_slice(),
+    ) {
+        Ok(bytes) => Ok(bytes),
+        Err(ObjectError::SymbolName) => Err(Fault::SymbolName),
+        Err(ObjectError::TooLarge) => Err(Fault::SectionTooLarge),
+        Err(ObjectError::Memory) => Err(Fault::Memory),
+    }
+}
+
+/// The flags of the processor of an object that a linker places.
+fn flags_of(form: LinkableForm) -> u32
+    ensures { result ≡ flags_of form }
+{
+    if form.float_abi {
+        EF_RISCV_FLOAT_ABI_DOUBLE
+    } else {
+        0
     }
 }
 

@@ -3,6 +3,7 @@
 ghost use Rattle.std.specs.Prelude.{◌≡◌, ◌≢◌, ◌≤◌, ◌⊎◌, [], Bool, IfOk, OnOk, IfErr, IsErrOf, map, string_bytes};
 ghost use Rattle.cli.specs.Command.{AreWithin, IsCommand};
 ghost use Rattle.cli.specs.declared.command.CompilePlan.{CompilePlan};
+ghost use Rattle.cli.specs.declared.command.ObjectPlan.{ObjectPlan};
 ghost use Rattle.cli.specs.declared.command.PassPipeline.{PassPipeline};
 ghost use Rattle.cli.specs.declared.command.RunPlan.{RunPlan};
 ghost use Rattle.cli.specs.declared.command.TestPlan.{TestPlan};
@@ -19,7 +20,7 @@ ghost use Rattle.tool_driver.specs.Refusals.{TellsRefusal, IsAnswerable};
 ghost use Rattle.tool_driver.specs.steps.Ends.{HasReadNone, Explains, ReadingEnds};
 ghost use Rattle.tool_driver.specs.Stream.{change, MetFault, IsWrittenWhole, IsTold};
 
-use crate::compiled::{compiled_text, listing_text, object_file, report_text, run_text, test_text};
+use crate::compiled::{compiled_text, listing_text, object_text, report_text, run_text, test_text};
 use crate::telling::tell;
 use base_io::sink::Sink;
 use base_io::source::Source;
@@ -32,8 +33,8 @@ use mir_printer::text::Text;
 use read_input::error::InputError;
 use read_input::input::read_input;
 use read_program::program::Program;
+use readback_strip::strip_command_crate::strip_text::strip_text;
 use std::alloc::Global;
-use strip_command::strip_text::strip_text;
 
 /// The greatest length of an input, in bytes: 16 MiB.
 pub const LIMIT: usize = 16_777_216;
@@ -44,12 +45,12 @@ pub const LIMIT: usize = 16_777_216;
 /// passes if there is no list), with `--frame` the section `.debug_frame` too, and with `--inline` the inlined
 /// functions with `.debug_rnglists`. `listing`, with the first two options, writes the listing alone, and `report` at
 /// how many of each function's words each variable has a location, and what the passes lost. `object`, with the same
-/// two options, writes the relocatable object of the functions. `run`, with a function's name, a number of steps and
-/// such options, writes a line for each step of its machine code, with the values of its variables. `strip` writes the
-/// functions without their debug items. `gen` reads nothing, and writes the text of the function that it generates from
-/// two numbers. `selftest`, with such numbers and the options of `listing`, reads nothing either, and writes how many
-/// values the location lists of such a function have along a run of its machine code. A fault is reported by a line on
-/// `faults`.
+/// two options, writes the relocatable object of the functions, with `--linkable` one that a linker places. `run`, with
+/// a function's name, a number of steps and such options, writes a line for each step of its machine code, with the
+/// values of its variables. `strip` writes the functions without their debug items. `gen` reads nothing, and writes the
+/// text of the function that it generates from two numbers. `selftest`, with such numbers and the options of `listing`,
+/// reads nothing either, and writes how many values the location lists of such a function have along a run of its
+/// machine code. A fault is reported by a line on `faults`.
 pub fn mirdwarf<S: Source, K: Sink, E: Sink>(
     alloc: Global,
     words: &[String],
@@ -136,10 +137,12 @@ pub fn mirdwarf<S: Source, K: Sink, E: Sink>(
         (change K.written K.faults output.old output.new) }
 
     // What `object` writes is the relocatable object of an output that keeps the promises of what `compile` writes: its
-    // sections, a symbol for each function and each other function that is called, and a relocation at each call.
-    ensures object { (plan : PassPipeline) → result ≡ Status.Done →
-        IsCommand (map string_bytes words.now) (Command.Object plan) →
-        WroteObject plan (change S.left S.faults input.old input.new)
+    // sections, a symbol for each function and each other function that is called, and a relocation at each call. With
+    // `--linkable` it is one that a linker places, with relocations in the debug sections too, and with location lists
+    // that are true in every frame.
+    ensures object { (asked : ObjectPlan) → result ≡ Status.Done →
+        IsCommand (map string_bytes words.now) (Command.Object asked) →
+        WroteObject asked (change S.left S.faults input.old input.new)
         (change K.written K.faults output.old output.new) }
 
     // What `run` writes is the run of the machine on the code of the first function of the name, line by line: it runs
@@ -256,9 +259,9 @@ fn answered<S: Source>(alloc: Global, command: Command, input: &mut S) -> Result
             let program = read(alloc, plan.linked, input)?;
             report_text(alloc, &program, &plan)
         }
-        Command::Object(plan) => {
-            let program = read(alloc, plan.linked, input)?;
-            object_file(alloc, &program, &plan)
+        Command::Object(asked) => {
+            let program = read(alloc, asked.plan.linked, input)?;
+            object_text(alloc, &program, &asked)
         }
         Command::Run(plan) => {
             let program = read(alloc, plan.plan.linked, input)?;

@@ -1,7 +1,7 @@
 -- The faults of the parts of a run, as its code meets them: want of memory is one of each part that allocates.
 use Rattle.std.specs.Prelude.{ℕ, Bool, List}
 use Rattle.read_program.specs.declared.program.Program.{Program}
-use Rattle.run_command.specs.Program.{HaveRegisters, HasVirtualRegister, HasLargeFrame, HasLargeSection}
+use Rattle.selftest_command.specs.run_command.Program.{HaveRegisters, HasVirtualRegister, HasLargeFrame, HasLargeSection}
 use Rattle.cli.specs.Command.{IsCommand}
 use Rattle.cli.specs.declared.command.Command.{Command}
 use Rattle.cli.specs.declared.command.PassPipeline.{PassPipeline}

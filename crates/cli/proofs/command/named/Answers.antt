@@ -42,14 +42,14 @@ returns-in-None-3 c = λ command. (
 
 pub returns-in-Some-4 : goal.returns-in-Some-4
 returns-in-Some-4 c =
-    the_command (c.args.name.now ∷ map string_bytes c.args.words.now) (Object c.in-Some-4.plan)
-    (c.is_same-4.ensures.0 c.if-is_same-4.true, (c.in_ok-plan-4.ensures c.in-Some-4.plan).0 c.in-Some-4.is)
+    the_command (c.args.name.now ∷ map string_bytes c.args.words.now) (Object c.in-Some-4.asked)
+    (c.is_same-4.ensures.0 c.if-is_same-4.true, (c.in_ok-asked.ensures c.in-Some-4.asked).0 c.in-Some-4.is)
 
 pub returns-in-None-4 : goal.returns-in-None-4
 returns-in-None-4 c = λ command. (
   λ e. absurd (no_some command e),
   λ h. absurd (no_object c.args.name.now (map string_bytes c.args.words.now) (c.is_same-4.ensures.0 c.if-is_same-4.true)
-      (λ p given. no_some p (sym c.in-None-4.is ∙ (c.in_ok-plan-4.ensures p).1 given)) command h),
+      (λ p given. no_some p (sym c.in-None-4.is ∙ (c.in_ok-asked.ensures p).1 given)) command h),
 )
 
 pub returns-in-Some-5 : goal.returns-in-Some-5

@@ -1,5 +1,5 @@
 use Rattle.std.specs.Prelude.{codes}
-use Rattle.cli.specs.declared.option.CommandOption.TheVariants.{Reserve, Arguments, Answers, Frame, Inline, Linked, Symbols}
+use Rattle.cli.specs.declared.option.CommandOption.TheVariants.{Reserve, Arguments, Answers, Frame, Inline, Linked, Linkable, FloatAbi, Symbols}
 use Rattle.cli.proofs.OptionWords.{the_option, no_option, numbers_word, word_numbers}
 use Rattle.cli.proofs.option.command_option.Goals as goal
 
@@ -11,6 +11,12 @@ returns-then-is_same-2 c = the_option c.args.word.now Inline (c.is_same-2.ensure
 
 pub returns-then-is_same-3 : goal.returns-then-is_same-3
 returns-then-is_same-3 c = the_option c.args.word.now Linked (c.is_same-3.ensures.0 c.if-is_same-3.true, tt)
+
+pub returns-then-is_same-4 : goal.returns-then-is_same-4
+returns-then-is_same-4 c = the_option c.args.word.now Linkable (c.is_same-4.ensures.0 c.if-is_same-4.true, tt)
+
+pub returns-then-is_same-5 : goal.returns-then-is_same-5
+returns-then-is_same-5 c = the_option c.args.word.now FloatAbi (c.is_same-5.ensures.0 c.if-is_same-5.true, tt)
 
 pub returns-in-Some-2 : goal.returns-in-Some-2
 returns-in-Some-2 c =
@@ -33,7 +39,8 @@ pub returns : goal.returns
 returns c =
     let word = c.args.word.now in
     no_option word (λ e. (let same = c.is_same.ensures.1 e in absurd cc)) (λ e. (let same = c.is_same-2.ensures.1 e in absurd cc))
-    (λ e. (let same = c.is_same-3.ensures.1 e in absurd cc))
+    (λ e. (let same = c.is_same-3.ensures.1 e in absurd cc)) (λ e. (let same = c.is_same-4.ensures.1 e in absurd cc))
+    (λ e. (let same = c.is_same-5.ensures.1 e in absurd cc))
     (λ l h. c.in_default.not-Some l ((c.passes.ensures l).1 h))
     (λ r h. c.in_default-2.not-Some r ((c.in_ok-registers.ensures r).1 h))
     (λ a h. c.in_default-3.not-Some a ((c.in_ok-values.ensures a).1 (word_numbers 8 (codes "--args=") word a h.0 h.1)))

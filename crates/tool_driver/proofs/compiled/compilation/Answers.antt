@@ -1,7 +1,7 @@
 -- The passes that run are those of the plan, with its reserve.
 use Rattle.std.proofs.Common.{ℕ, List, sym, subst}
 use Rattle.pass_list.specs.Names.{AreDistinct}
-use Rattle.run_command.specs.Program.{IsOutputOf, IsCompilationOf, HaveRegisters, HasVirtualRegister, HasLargeFrame, HasLargeSection, steps_of}
+use Rattle.selftest_command.specs.run_command.Program.{IsOutputOf, IsCompilationOf, HaveRegisters, HasVirtualRegister, HasLargeFrame, HasLargeSection, steps_of}
 use Rattle.tool_driver.proofs.Plans.{by_plan}
 use Rattle.tool_driver.proofs.compiled.compilation.Goals as goal
 

@@ -1,7 +1,7 @@
 -- The passes that run are those of the plan, with its reserve.
 use Rattle.std.proofs.Common.{ℕ, List, refl, sym, subst}
 use Rattle.pass_list.specs.Names.{AreDistinct}
-use Rattle.run_command.specs.Program.{IsOutputOf, HaveRegisters, HasVirtualRegister, HasLargeFrame, steps_of}
+use Rattle.selftest_command.specs.run_command.Program.{IsOutputOf, HaveRegisters, HasVirtualRegister, HasLargeFrame, steps_of}
 use Rattle.tool_driver.specs.Refusals.{no_register, frame_too_large}
 use Rattle.tool_driver.proofs.AnswerLemmas.{compile_named, IsLargeAsAsked, large_as_asked}
 use Rattle.tool_driver.proofs.Plans.{by_plan}

@@ -4,8 +4,8 @@ use Rattle.report_command.proofs.Reported.{compilation_reported}
 use Rattle.report_command.specs.ProgramReport.{IsReportText, compilation_report}
 use Rattle.read_program.specs.declared.program.Program.{Program}
 use Rattle.pass_list.specs.declared.kind.PassKind.{PassKind}
-use Rattle.run_command.specs.Program.{IsCompilationOf}
-use Rattle.run_command.specs.Runs.{Compilation}
+use Rattle.selftest_command.specs.run_command.Program.{IsCompilationOf}
+use Rattle.selftest_command.specs.run_command.Runs.{Compilation}
 use Rattle.tool_driver.proofs.compiled.report_text.Goals as goal
 
 pub report-requires : goal.report-requires

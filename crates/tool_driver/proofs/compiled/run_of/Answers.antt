@@ -2,12 +2,12 @@
 use Rattle.std.proofs.Common.{◌≡◌, ℕ, List, Option, Some, None, refl, subst, rules}
 use Rattle.std.specs.Prelude.{MatchOption}
 use Rattle.cli.specs.declared.command.RunPlan.{RunPlan}
-use Rattle.run_command.proofs.Runs.{compilation_can_run}
-use Rattle.run_command.proofs.Source.{run_of_program, names_are_read}
-use Rattle.run_command.specs.Runs.{Compilation, HasNone, IsRunOf}
-use Rattle.run_command.specs.Source.{IsUnknown, IsRunOfProgram}
+use Rattle.selftest_command.proofs.run_command.Runs.{compilation_can_run}
+use Rattle.selftest_command.proofs.run_command.Source.{run_of_program, names_are_read}
+use Rattle.selftest_command.specs.run_command.Runs.{Compilation, HasNone, IsRunOf}
+use Rattle.selftest_command.specs.run_command.Source.{IsUnknown, IsRunOfProgram}
 use Rattle.read_program.specs.declared.program.Program.{Program}
-use Rattle.run_command.specs.Program.{IsCompilationOf, IsOutputOf}
+use Rattle.selftest_command.specs.run_command.Program.{IsCompilationOf, IsOutputOf}
 use Rattle.tool_driver.specs.Refusals.{unknown_function}
 use Rattle.tool_driver.specs.Compiled.{plan_steps}
 use Rattle.tool_driver.proofs.compiled.run_of.Goals as goal

@@ -1,6 +1,6 @@
 -- A run is of a function that is there.
 use Rattle.std.proofs.Common.{◌≡◌, ℕ, List, refl, sym, subst}
-use Rattle.run_command.specs.Source.{IsUnknown}
+use Rattle.selftest_command.specs.run_command.Source.{IsUnknown}
 use Rattle.read_program.specs.declared.closing.Parsed.{Parsed}
 use Rattle.cli.specs.declared.command.Command.TheVariants.{Run}
 use Rattle.tool_driver.specs.Refusals.{unknown_function}

@@ -1,8 +1,8 @@
 -- What each command writes: those that read, of the program that was read.
 use Rattle.std.proofs.Common.{sym, ap, ◌∙◌, subst, refl, IfOk, IfErr}
 use Rattle.std.proofs.lemmas.Result.{err_from_is_err_and}
-use Rattle.read_proof.proofs.Texts.{programs_are_as_read}
-use Rattle.strip_command.specs.StripText.{stripped_text}
+use Rattle.readback_strip.proofs.read_proof.Texts.{programs_are_as_read}
+use Rattle.readback_strip.specs.strip_command.StripText.{stripped_text}
 use Rattle.cli.specs.Command.{AreWithin}
 use Rattle.cli.specs.declared.command.Command.{Command}
 use Rattle.cli.specs.declared.command.Command.TheVariants.{Compile, Listing, Report, Object, Run, Strip}
@@ -28,10 +28,10 @@ report_text-requires g c =
     let read = c.in_ok-program-in-Report.ensures.ok in
     programs_are_as_read c.in-Report.plan.linked read.text c.in_ok-program-in-Report.program read.has.reads
 
-pub object_file-requires : goal.object_file-requires
-object_file-requires g c =
+pub object_text-requires : goal.object_text-requires
+object_text-requires g c =
     let read = c.in_ok-program-in-Object.ensures.ok in
-    programs_are_as_read c.in-Object.plan.linked read.text c.in_ok-program-in-Object.program read.has.reads
+    programs_are_as_read c.in-Object.asked.plan.linked read.text c.in_ok-program-in-Object.program read.has.reads
 
 pub run_text-requires : goal.run_text-requires
 run_text-requires g c =
@@ -83,16 +83,16 @@ returns-in_ok-program-in-Report-clause-err g c =
 pub returns-in_ok-program-in-Object-clause-ok : goal.returns-in_ok-program-in-Object-clause-ok
 returns-in_ok-program-in-Object-clause-ok g c =
     let input = change g.S.Source.left g.S.Source.faults c.args.input.now c.read-in-Object.new.input in
-    subst (λ (k : Command). IfOk c.object_file.result (AnswersInput k input)) (sym c.in-Object.is)
-    (object_ok c.in-Object.plan input c.in_ok-program-in-Object.program c.in_ok-program-in-Object.ensures.ok c.object_file.result
-    c.object_file.ensures.ok)
+    subst (λ (k : Command). IfOk c.object_text.result (AnswersInput k input)) (sym c.in-Object.is)
+    (object_ok c.in-Object.asked input c.in_ok-program-in-Object.program c.in_ok-program-in-Object.ensures.ok c.object_text.result
+    c.object_text.ensures.ok)
 
 pub returns-in_ok-program-in-Object-clause-err : goal.returns-in_ok-program-in-Object-clause-err
 returns-in_ok-program-in-Object-clause-err g c =
     let input = change g.S.Source.left g.S.Source.faults c.args.input.now c.read-in-Object.new.input in
-    subst (λ (k : Command). IfErr c.object_file.result (ReadingEnds k input)) (sym c.in-Object.is)
-    (object_err c.in-Object.plan input c.in_ok-program-in-Object.program c.in_ok-program-in-Object.ensures.ok c.object_file.result
-    c.object_file.ensures.err)
+    subst (λ (k : Command). IfErr c.object_text.result (ReadingEnds k input)) (sym c.in-Object.is)
+    (object_err c.in-Object.asked input c.in_ok-program-in-Object.program c.in_ok-program-in-Object.ensures.ok c.object_text.result
+    c.object_text.ensures.err)
 
 pub returns-in_ok-program-in-Run-clause-ok : goal.returns-in_ok-program-in-Run-clause-ok
 returns-in_ok-program-in-Run-clause-ok g c =
@@ -157,7 +157,7 @@ pub returns-in_err-program-in-Object-clause-err : goal.returns-in_err-program-in
 returns-in_err-program-in-Object-clause-err g c =
     let p = err_from_is_err_and c.from_residual-in_err-program-in-Object.result c.from_residual-in_err-program-in-Object.ensures.1 in
     rw (p.1, p.2, c.in-Object.is)
-    (read_none (Object c.in-Object.plan) tt (change g.S.Source.left g.S.Source.faults c.args.input.now c.read-in-Object.new.input)
+    (read_none (Object c.in-Object.asked) tt (change g.S.Source.left g.S.Source.faults c.args.input.now c.read-in-Object.new.input)
     c.in_err-program-in-Object.field-0.0 c.in_err-program-in-Object.ensures.err)
 
 pub returns-in_err-program-in-Run-clause-err : goal.returns-in_err-program-in-Run-clause-err
