@@ -4,7 +4,7 @@
     bench/check_pages.py     tells what is wrong, page by page; ends with 1 if there is any
 
 - A link leads to a file. A path in backquotes is there, from the top, the page's folder, crates/ or a crate; `{A,B}` stands for either name.
-- A name in backquotes stands in the code, comments left out: `crate::module::name` in that crate, another one anywhere.
+- A name in backquotes stands in the code, comments left out: `crate::module::name` in that crate, or in the one that it hands on, another one anywhere.
 - What PROVED.md says of a crate names what stands in that crate, or in one on which it stands.
 - The clauses that the README names are clauses of the top call.
 - DESIGN.md, "Where a change goes": for each class of operations the list has the files that name at least half of its operations, and no others;
@@ -27,7 +27,7 @@ WIDE = 80
 WORD = re.compile(r"[A-Za-z_][\w']*")
 # Words in backquotes that no code of this repository has: of LLVM, of debuggers, of the toolchain's commands and files.
 OTHERS = set("""ADDI LD SD LUI COPY FENCE PseudoTAIL DBG_VALUE DBG_INSTR_REF DBG_PHI alloca switch clang llc rt gdb qemu python3 binutils valgrind
-backtrace virtregrewriter gen echo __muldi3 DW_AT_type MachineFunction MachineBasicBlock MachineInstr DebugVariable InstrRefBasedLDV ValueIDNum up void""".split())
+backtrace virtregrewriter gen echo __muldi3 MachineConstantPool setjmp luaV_execute DW_AT_type MachineFunction MachineBasicBlock MachineInstr DebugVariable InstrRefBasedLDV ValueIDNum up void""".split())
 
 
 def sources():
@@ -112,6 +112,9 @@ class Pages:
                 self.fault(page, number, f"no such file: {text}")
         elif re.search(r"\w::\w", word):
             parts = [it for it in re.split(r"::|[^\w]", word) if it]
+            # A crate that another one hands on.
+            while parts[1:] and parts[1].endswith("_crate") and parts[1] in self.by_crate.get(parts[0], ()):
+                parts[:2] = [parts[1].removesuffix("_crate")]
             among = self.by_crate.get(parts[0], self.words)
             for it in parts[1:] if parts[0] in self.by_crate else parts:
                 if it not in among:

@@ -3,15 +3,21 @@
 
     bench/check_uses.py [FOLDER]
 
-It tells where a `use` or a path in code names a crate that crates.txt doesn't list for the file's own, a file or a function that isn't
-there, or an item that its file doesn't declare or that is private, and where `specs` names `proofs` of its own crate. It tells which
-crates crates.txt lists for one that names them nowhere, or below it, and which files no `mod` names. It doesn't look into the kit's
-libraries. FOLDER is another copy of the sources. It proves nothing, and takes some ten seconds. It ends with 1 where it told something.
+It tells where a `use` or a path in code names a crate that crates.txt doesn't list for the file's own and that no listed one hands on, a
+file or a function that isn't there, or an item that its file doesn't declare or that is private, and where `specs` names `proofs` of its
+own crate. A crate hands on another one by `pub use` in its Lib.antt or lib.rt: what is named by it is looked up where it stands. It tells
+which crates crates.txt lists for one that names them nowhere, or below it, which are handed on to nobody or under another name, and
+which files no `mod` names; and where more ways lead down by crates.txt than `rt ci` walks in a bearable time (`bench/cost.py --ways`). It
+doesn't look into the kit's libraries. FOLDER is another copy of the sources. It proves nothing, and takes some ten seconds. It ends with 1
+where it told something.
 """
 import re
 import sys
 from functools import cache
 from pathlib import Path
+
+sys.dont_write_bytecode = True
+import cost
 
 TOP = Path(sys.argv[1]).resolve() if sys.argv[1:] else Path(__file__).resolve().parent.parent
 KIT = {"std", "core", "alloc", "mir", "lib", "borrow"}
@@ -26,6 +32,8 @@ IMPL = re.compile(r"impl\b(?:<[^{]*?>)? *(?:([\w:]+)(?:<[^{]*?>)? for )?([\w:]+)
 REMARK = re.compile(r"(?:^|(?<=\s))-- .*$", re.M)
 QUOTED = re.compile(r"//[^\n]*|\"(?:[^\"\\]|\\.)*\"|'(?:[^'\\\n]|\\[^\n])'", re.S)
 TOLD = set()
+READ = set()
+LEADS = {}
 
 
 def tell(file, number, what):
@@ -137,16 +145,32 @@ def made_from(crate, path):
 
 
 @cache
+def home_of(crate, path):
+    """Where a path of specs or proofs leads behind what crates hand on: the crate that has it, and its path there."""
+    side, *rest = path.split(".")
+    for end in range(len(rest), 0, -1):
+        handed = lists_of(crate, side).get(".".join(rest[:end]))
+        if isinstance(handed, tuple) and handed[0] != crate:
+            READ.add((crate, side, ".".join(rest[:end])))
+            return home_of(handed[0], ".".join([handed[1], *rest[end:]]))
+    return crate, path
+
+
+@cache
 def names_at(crate, path, own):
-    """The names of a path of specs or proofs and whether they are pub; or a text, of what is wrong."""
+    """The names of a path of specs or proofs and whether they are pub, or None of a whole side; or a text, of what is wrong."""
+    home, path = home_of(crate, path)
+    crate, own = home, own and home == crate
     side, *rest = parts = path.split(".")
-    if side not in ("specs", "proofs") or not rest:
+    if side not in ("specs", "proofs"):
         return f"is neither of specs nor of proofs: {path}"
+    if not rest:
+        return None if (TOP / "crates" / crate / side / "Lib.antt").is_file() else f"no {side} in {crate}"
     if rest[0] in ("declared", "contracts") and rest[1:] or rest[-1] in ("Goals", "Given") and rest[2:]:
         return made_from(crate, parts)
     listed, name = lists_of(crate, side), ".".join(rest)
-    if isinstance(listed.get(name), tuple):
-        return names_at(*listed[name], False)
+    if rest[0] in ORDER and rest[0] not in listed:
+        return f"{crate} doesn't hand on {side} of {rest[0]}"
     name, inner = (".".join(rest[:-1]), rest[-1] + ".") if name not in listed and ".".join(rest[:-1]) in listed else (name, "")
     file = TOP / "crates" / crate / side / (name.replace(".", "/") + ".antt")
     if not file.is_file() or name not in listed:
@@ -166,10 +190,22 @@ def check_item(file, at, crate, other, path, item):
         tell(file, at, f"{item} in {other}.{path} is private" if item in names else f"no {item} in {other}.{path}")
 
 
+@cache
+def handed_on(crate):
+    """What the root of a library has from another crate: its path there, by its name here."""
+    uses = [each for _, m in matches(CODE_USE, text_of(src(crate, "lib"))) if m[1] for each in spread(m[2])] if src(crate, "lib").is_file() else []
+    return {name: parts for parts, name in uses if parts[0] in ORDER and parts[0] != crate}
+
+
 def check_path(file, at, crate, other, parts):
     """A path of code, behind the name of its crate."""
     if parts[0] in ("specs", "proofs"):
         check_item(file, at, crate, other, ".".join(parts[:-1]), parts[-1])
+        return
+    if parts[1:] and parts[0] in handed_on(other) and code_of(other, "lib")[0].get(parts[0]) == "pub ":
+        READ.add((other, "src", parts[0]))
+        other, *begin = handed_on(other)[parts[0]]
+        check_path(file, at, crate, other, begin + parts[1:])
         return
     module = "lib" if src(other, "lib").is_file() else "main"
     if src(other, parts[0]).is_file():
@@ -195,7 +231,11 @@ def check_file(file, crate, deps, side, named):
     for at, m in matches(USE, text):
         if side == "specs" and m[2] == crate and m[3].startswith("proofs"):
             tell(file, at, f"specs names {m[3]} of its own crate")
+        home, path = home_of(m[2], m[3])
+        if m[1] and m[5] and "." not in path and m[5] != home:
+            tell(file, at, f"hands on {home} as {m[5]}")
         if reaches(m[2]):
+            LEADS.setdefault(file, []).append((at, m[2], m[3]))
             for item, _ in items_in(m[4]) or [(None, None)]:
                 check_item(file, at, crate, m[2], m[3], item)
             called = rf"(?<![\w.◌]){re.escape(m[5])}\.([^\s(){{}}\[\].,;]+)" if m[5] and names_at(m[2], m[3], True) else "(?!)"
@@ -203,6 +243,7 @@ def check_file(file, crate, deps, side, named):
                 check_item(file, at, crate, m[2], m[3], named_so[1])
     for at, m in matches(WHOLE, rest):
         if reaches(m[1]):
+            LEADS.setdefault(file, []).append((at, m[1], m[2]))
             check_item(file, at, crate, m[1], m[2], m[3])
     if side == "src":
         paths = [(at, parts) for at, m in matches(CODE_USE, text) for parts, _ in spread(m[2]) if parts[0] not in ("self", "super")]
@@ -211,6 +252,9 @@ def check_file(file, crate, deps, side, named):
             other = crate if other == "crate" else other
             if not other[0].isupper() and reaches(other) and parts:
                 check_path(file, at, crate, other, parts)
+        for name, parts in handed_on(crate).items() if file == src(crate, "lib") else []:
+            if name.endswith("_crate") and name != f"{parts[-1].removesuffix('_crate')}_crate":
+                tell(file, 1, f"hands on {'::'.join(parts)} as {name}")
 
 
 def check_mods(crate):
@@ -232,6 +276,24 @@ def check_mods(crate):
     return mods
 
 
+def check_clauses():
+    """Where clauses lead, use by use, to a name that a crate hands on with all proofs of another one: the check refuses such clauses."""
+    waits = [file for file, _, side in FILES if side in ("specs", "src") and file.name != "Lib.antt"]
+    found = set(waits)
+    while waits:
+        file = waits.pop()
+        for at, crate, path in LEADS.get(file, []):
+            side, *rest = path.split(".")
+            if side == "proofs" and rest and home_of(crate, f"{side}.{rest[0]}") != (crate, f"{side}.{rest[0]}") and "." not in home_of(crate, f"{side}.{rest[0]}")[1]:
+                tell(file, at, f"a clause leads here, and {crate} hands on all proofs of {rest[0]}")
+            home, path = home_of(crate, path)
+            to = TOP / "crates" / home / (path.replace(".", "/") + ".antt")
+            to = to if to.is_file() else to.parent.with_suffix(".antt")
+            if to in LEADS and to not in found:
+                found.add(to)
+                waits.append(to)
+
+
 LINES = [(at, line.split(":")) for at, line in enumerate((TOP / "crates.txt").read_text().splitlines(), 1) if line.strip() and line[0] != "#"]
 ORDER = {name: (at, deps.split()) for at, (name, deps) in LINES}
 MODS = {crate: check_mods(crate) for crate in ORDER}
@@ -245,5 +307,16 @@ for CRATE, (AT, DEPS) in ORDER.items():
             tell(TOP / "crates.txt", AT, f"no file of {CRATE} names {DEP}")
         if DEP in ORDER and ORDER[DEP][0] >= AT:
             tell(TOP / "crates.txt", AT, f"{DEP} doesn't stand above its user {CRATE}")
-print(*(f"{file}:{at}: {what}\n" for file, at, what in sorted(TOLD)), f"{len(FILES)} files of {len(ORDER)} crates, {len(TOLD)} faults", sep="")
+check_clauses()
+for CRATE in ORDER:
+    LISTED = [(side, name, to) for side in ("specs", "proofs") for name, to in lists_of(CRATE, side).items() if isinstance(to, tuple)]
+    WHOLES = [(side, name) for side, name, to in LISTED if "." not in home_of(*to)[1]]
+    for SIDE, NAME in WHOLES + [("src", name) for name in handed_on(CRATE) if name.endswith("_crate")]:
+        if (CRATE, SIDE, NAME) not in READ:
+            tell(TOP / "crates" / CRATE / SIDE, 1, f"hands on {NAME}, and nobody names it so")
+WAYS = sum(cost.ways({crate: [dep for dep in deps if dep in ORDER] for crate, (_, deps) in ORDER.items()})[0].values())
+if WAYS > cost.MOST_WAYS:
+    tell(TOP / "crates.txt", 1, f"{WAYS} ways lead down, of {cost.MOST_WAYS} at most: bench/cost.py --ways")
+print(*(f"{file}:{at}: {what}\n" for file, at, what in sorted(TOLD)), sep="", end="")
+print(f"{len(FILES)} files of {len(ORDER)} crates, {WAYS} ways, {len(TOLD)} faults")
 sys.exit(1 if TOLD else 0)

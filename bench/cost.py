@@ -3,11 +3,16 @@
 
     bench/cost.py NAME..        what a change to all of these crates costs
     bench/cost.py --each NAME.. the same for each of them alone, dearest first; with no name for all crates
+    bench/cost.py --ways        the ways that lead down by crates.txt, and the dearest names there that another name of their line leads to
 
 It takes the crates from crates.txt, and the processor seconds of each from the table "The gate" of docs/PERFORMANCE.md; a crate that has no row
 there counts as SMALL seconds of proof. Wall minutes are those of a schedule on two and on four processors, the longest chain of proofs
 first, with the part of a processor's time that a run of the gate was seen to use. What the gate runs again in any case, the tests and programs
-of the crates that didn't change, isn't counted."""
+of the crates that didn't change, isn't counted.
+
+Before and after the proof of a library `rt ci` sums the files of the library and of all that it uses, those of a crate once for each way that
+leads down to it by crates.txt: some 2 ms a way each time. So MOST_WAYS is what is bearable. A name that another name of its line leads to is
+taken out of the line where it adds many ways; the other crate then hands it on."""
 import heapq
 import os
 import re
@@ -16,6 +21,7 @@ import sys
 TOP = os.path.join(os.path.dirname(os.path.abspath(__file__)), "..")
 SMALL = 8.0  # rows below ten seconds are left out of the table
 USED = 0.83  # of each processor, in a whole run on four
+MOST_WAYS = 500_000
 COLUMNS = ("proof", "tests", "edits", "else")
 
 
@@ -54,6 +60,35 @@ def above(changed, below):
             found.add(name)
             left.extend(users.get(name, []))
     return found
+
+
+def ways(below):
+    """Of each crate the ways that lead down from it, with that of no step, and those that lead down to it."""
+    down, up, order = {}, dict.fromkeys(below, 1), []
+
+    def count(name):
+        if name not in down:
+            down[name] = 1 + sum(count(it) for it in below[name])
+            order.append(name)
+        return down[name]
+
+    for name in below:
+        count(name)
+    for name in reversed(order):
+        for it in below[name]:
+            up[it] += up[name]
+    return down, up
+
+
+def tell_ways(below):
+    """Prints the ways, and the ten names of crates.txt that add most of them beside another name that leads to the same crate."""
+    down, up = ways(below)
+    print(f"{sum(down.values())} ways lead down by crates.txt; {MOST_WAYS} at most are bearable\n")
+    print("| crate | uses | by this name alone | another name leads to it |\n|---|---|---|---|")
+    over = {name: above([name], below) for name in below}
+    rows = [(up[name] * down[it], name, it, [by for by in below[name] if by != it and by in over[it]]) for name in below for it in below[name]]
+    for count, name, it, others in [row for row in sorted(rows, reverse=True) if row[3]][:10]:
+        print(f"| {name} | {it} | {count} | {' '.join(others)} |")
 
 
 def wall(again, below, spent, processors):
@@ -99,6 +134,8 @@ def main():
     words = sys.argv[1:]
     each = words[:1] == ["--each"]
     below, table = crates(), seconds()
+    if words == ["--ways"]:
+        return tell_ways(below)
     names = words[each:] or (list(below) if each else [])
     unknown = [it for it in names if it not in below]
     if unknown or not names:
@@ -111,4 +148,5 @@ def main():
         print(f"| {name} | {count} | {cells} |")
 
 
-main()
+if __name__ == "__main__":
+    main()

@@ -13,6 +13,7 @@ its view and its invariant name belongs to it.
 import os
 import re
 import sys
+from functools import cache
 
 TOP = os.path.join(os.path.dirname(os.path.abspath(__file__)), "..")
 CRATES = os.path.join(TOP, "crates")
@@ -23,10 +24,13 @@ DOTTED = re.compile(r"(?<![\w.'])[a-z]\w*\.[A-Za-z_][\w']*")
 USE = re.compile(r"^\s*(?:pub )?(?:ghost )?use Rattle\.([a-z0-9_]+)\.(specs|proofs)\.([\w.]+)\.\{([^}]*)\}", re.M)
 # A whole module under a name of its own, and what is named of it.
 MODULE = re.compile(r"^\s*(?:pub )?(?:ghost )?use Rattle\.([a-z0-9_]+)\.(specs|proofs)\.([\w.]+) as ([a-z]\w*)$", re.M)
+# A module that a crate hands on, or the whole of another crate under that one's name.
+HANDED = re.compile(r"^pub use Rattle\.([a-z0-9_]+)\.(specs|proofs)((?:\.\w+)*)(?: as (\w+))?$", re.M)
 HEAD = re.compile(r"^( *)(?:(?:abbrev|unfoldable)(?: pub)?|(?:pub )?(?:record|data)) (◌\S+◌|[A-Za-z_][\w']*)")
 MARKS = "<!-- made by bench/definitions.py -->", "<!-- end -->"
 
 
+@cache
 def text_of(*parts):
     try:
         with open(os.path.join(CRATES, *parts), encoding="utf-8") as it:
@@ -48,10 +52,11 @@ def uses_in(text):
         for name in names.split(","):
             words = name.split()
             if words:
-                found[words[-1]] = (crate, at(room, module), words[0])
+                found[words[-1]] = (*home_of(crate, at(room, module)), words[0])
     for crate, room, module, short in MODULE.findall(text):
+        crate, module = home_of(crate, at(room, module))
         for name in [] if module.startswith("declared.") else re.findall(r"(?<![\w.'])%s\.([A-Za-z_][\w']*)" % short, text):
-            found[f"{short}.{name}"] = (crate, at(room, module), name)
+            found[f"{short}.{name}"] = (crate, module, name)
     return found
 
 
@@ -89,14 +94,16 @@ class File:
 FILES = {}
 
 
+@cache
 def home_of(crate, module):
-    """Where a module stands that a crate may only hand on."""
-    while text_of(path_of(crate, module)) is None:
-        first = module.split(".")[0] if not module.startswith("declared.") else module
-        handed = re.search(r"^pub use Rattle\.([a-z0-9_]+)\.specs\.((?:[\w.]*\.)?%s)$" % re.escape(first), text_of(crate, "specs", "Lib.antt") or "", re.M)
-        if not handed:
-            return crate, module
-        crate, module = handed[1], handed[2] + module[len(first):]
+    """Where a module stands that a crate may only hand on, by itself or with the whole crate that has it."""
+    if text_of(path_of(crate, module)) is not None:
+        return crate, module
+    room, _, path = module.rpartition("/")
+    first, *rest = path.split(".")
+    for other, side, path, short in HANDED.findall(text_of(crate, room or "specs", "Lib.antt") or ""):
+        if first == (short or path.split(".")[-1]):
+            return home_of(other, at(side, ".".join([*path.split(".")[1:], *rest])))
     return crate, module
 
 
@@ -132,12 +139,10 @@ def closure():
         crate, module, name = uses[name]
         if crate == "std":
             continue
-        crate, module = home_of(crate, module)
-        at = crate, module, name
-        if at in found:
+        if (crate, module, name) in found:
             continue
         if module.startswith("declared."):
-            found.add(at)
+            found.add((crate, module, name))
             body, uses = model_of(crate, module, name)
             waits += [(uses, n) for n in sorted(names_in(body))]
             continue

@@ -28,6 +28,9 @@ def seen(pid):
         folder = os.readlink(f"/proc/{pid}/cwd")
         with open(f"/proc/{pid}/stat") as it:
             fields = it.read().rsplit(")", 1)[1].split()
+        # (one that is ending has no words any more: what it was last seen to do stands)
+        if not words:
+            return None
         return words, folder, fields[1], fields[19], (int(fields[11]) + int(fields[12])) / TICKS
     except (OSError, IndexError, ValueError):
         return None

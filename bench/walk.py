@@ -15,7 +15,8 @@ import tempfile
 import time
 
 TOP = os.path.realpath(os.path.join(os.path.dirname(os.path.abspath(__file__)), ".."))
-RUN = ("rt", "./mirdwarf", "clang-19", "llc-19", "examples/debug.py", "tools/view.py", "readelf", "objdump", "gdb-multiarch")
+RUN = ("rt", "./mirdwarf", "tools/mirdwarf-cc", "qemu-riscv64", "clang-19", "llc-19", "examples/debug.py", "tools/view.py", "readelf", "objdump",
+       "gdb-multiarch")
 
 
 def blocks(text):

@@ -145,10 +145,11 @@ def free_port():
         return it.getsockname()[1]
 
 
-def debugged(file, debugger, seconds):
-    """What a debugger says of a program on qemu's processor, and whether it ended in time; `debugger` gives its words for a port of this machine."""
+def debugged(file, debugger, seconds, words=()):
+    """What a debugger says of a program on qemu's processor, and whether it ended in time; `debugger` gives its words for a port of this machine, and
+    `words` are those of the program. What the program prints is lost."""
     port = free_port()
-    machine = subprocess.Popen(["qemu-riscv64", "-g", str(port), file], stderr=subprocess.DEVNULL)
+    machine = subprocess.Popen(["qemu-riscv64", "-g", str(port), file, *words], stdout=subprocess.DEVNULL, stderr=subprocess.DEVNULL)
     try:
         ran = subprocess.run(debugger(port), capture_output=True, text=True, timeout=seconds)
         return ran.stdout + ran.stderr, True
@@ -159,9 +160,9 @@ def debugged(file, debugger, seconds):
         machine.wait()
 
 
-def in_gdb(file, script, seconds):
-    """What gdb says that runs a script on a program, and whether it ended in time."""
+def in_gdb(file, script, seconds, words=()):
+    """What gdb says that runs a script on a program with these words, and whether it ended in time."""
     def gdb(port):
         target = ["-ex", "set tcp connect-timeout 60", "-ex", f"target remote 127.0.0.1:{port}"]
         return ["gdb-multiarch", "-nx", "-batch", *target, "-x", script, file]
-    return debugged(file, gdb, seconds)
+    return debugged(file, gdb, seconds, words)
