@@ -10,7 +10,9 @@ use Rattle.cli.specs.declared.command.Command.TheVariants.{Report, Object, Run, 
 use Rattle.cli.specs.Command.{IsCommand}
 use Rattle.cli.proofs.CommandWords.{one_command}
 use Rattle.read_program.specs.declared.program.Program.{Program}
-use Rattle.tool_driver.specs.Run.{Finishes, AnswersRead, AnswersInput, WroteReport, WroteObject, WroteRun, WroteTest, IsKeptAsked}
+use Rattle.linkable_placement.proofs.Placed.{object_placed}
+use Rattle.selftest_command.specs.run_command.Program.{names_of, sources_of}
+use Rattle.tool_driver.specs.Run.{Finishes, AnswersRead, AnswersInput, WroteReport, WroteObject, WroteRun, WroteTest, KeepsPromises, IsKeptAsked}
 use Rattle.tool_driver.specs.Compiled.{plan_steps, IsObjectAsked}
 use Rattle.tool_driver.specs.Stream.{Change}
 use Rattle.tool_driver.proofs.Kept.{keeps_promises}
@@ -24,12 +26,17 @@ kept_asked None plan p bytes file = record {
   promises = keeps_promises (plan_steps plan) p file.output file.is.made;
   object = file.object;
 }
-kept_asked (Some form) plan p bytes file = record {
-  compilation = file.compilation;
-  by_plan = file.by_plan;
-  promises = keeps_promises (plan_steps plan) p file.compilation.output file.by_plan.is.made;
-  is = file.object;
-}
+kept_asked (Some form) plan p bytes file =
+    let o = file.compilation.output in
+    let promises : KeepsPromises (plan_steps plan) p o = keeps_promises (plan_steps plan) p o file.by_plan.is.made in
+    let is = file.object in
+    record {
+      compilation = file.compilation;
+      by_plan = file.by_plan;
+      promises = promises;
+      is = is;
+      placed = object_placed (names_of p.meta) (sources_of p.functions) o is.loclists is.tables promises.laid_out is.are.are.writable;
+    }
 
 module _ (words : List (List ℕ)) (input output : Change) (finished : Finishes words input output) where
   -- what the command that is asked for writes was written

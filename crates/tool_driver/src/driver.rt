@@ -138,8 +138,9 @@ pub fn mirdwarf<S: Source, K: Sink, E: Sink>(
 
     // What `object` writes is the relocatable object of an output that keeps the promises of what `compile` writes: its
     // sections, a symbol for each function and each other function that is called, and a relocation at each call. With
-    // `--linkable` it is one that a linker places, with relocations in the debug sections too, and with location lists
-    // that are true in every frame.
+    // `--linkable` it is one that a linker places, with location lists that are true in every frame: wherever it does,
+    // the code runs in the environment of the placement, and the debug sections are those of the same entries, rows and
+    // functions, moved there.
     ensures object { (asked : ObjectPlan) → result ≡ Status.Done →
         IsCommand (map string_bytes words.now) (Command.Object asked) →
         WroteObject asked (change S.left S.faults input.old input.new)
