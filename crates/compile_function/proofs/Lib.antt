@@ -5,7 +5,6 @@ pub mod Located
 pub mod Pushed
 pub mod Refused
 pub use Rattle.compile_passes.proofs.AfterPasses
-pub use Rattle.compile_passes.proofs.Scan
 pub use Rattle.compile_passes.proofs.compile_theorem as compile_theorem
 pub use Rattle.dwarf_sections.proofs.dwarf_line_table as dwarf_line_table
 pub use Rattle.dwarf_sections.proofs.inline_subroutines as inline_subroutines

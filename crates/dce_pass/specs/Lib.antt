@@ -1,6 +1,5 @@
 pub mod Rounds
 pub mod RoundsLaws
-pub use Rattle.dce_proof.specs.Round
 pub mod Steps
 pub use Rattle.dce_proof.specs.SalvageLedger
 pub use Rattle.dce_proof.specs.DebugRule

@@ -31,10 +31,12 @@ pub fn look_up(
     ensures flags { OnOk result (length changed.new.items ≡ length places.old.items) }
     ensures changes { IfOk result (λ any. Changes places.old.items places.new.items changed.new.items any) }
 {
-    make_room(firsts, stand.held.places.as_slice())?;
-    fill(firsts, stand.held.places.as_slice());
+    let located = stand.held.places.as_slice();
+    let end = end_of(located);
+    make_room(firsts, located, end)?;
+    fill(firsts, located, end);
     let any = place_parts(places, changed, stand, firsts.as_slice());
-    empty(firsts, stand.held.places.as_slice());
+    empty(firsts, located, end);
     Ok(any)
 }
 
@@ -57,11 +59,78 @@ fn place_parts(
 {
     let mut any = false;
     for j in 0..places.len() {
-        let place = place_part(stand, firsts, j);
-        let moved = set_place(places, changed, j, &place);
+        let moved = renew_place(places, changed, stand, firsts, j);
         any = either(moved, any);
     }
     any
+}
+
+/// Sets the place of the part at an index, and its flag to whether that changes it, which is returned. Most parts have
+/// neither a class nor a place.
+fn renew_place(
+    places: &mut Vec<Option<Place>>,
+    changed: &mut Vec<bool>,
+    stand: &TransferTracker,
+    firsts: &[Option<usize>],
+    j: usize,
+) -> bool
+    requires part { j < length places.old.items }
+    requires flag { j < length changed.old.items }
+    requires held { j < length stand.now.held.parts.items }
+    requires within { (k i : ℕ) → slice_index_or firsts.now k None ≡ Some i → i < PLACES }
+    ensures places { (k : ℕ) → slice_index_or places.new.items k None ≡ cond (nat_eq k j)
+        (cond stand.now.reached (place_of firsts.now stand.now.constants.items
+        (slice_index stand.now.held.parts.items j)) None) (slice_index_or places.old.items k None) }
+    ensures changed { (k : ℕ) → slice_index_or changed.new.items k false
+        ≡ cond (nat_eq k j) result (slice_index_or changed.old.items k false) }
+    ensures same { result ≡ false → slice_index_or places.old.items j None ≡ cond stand.now.reached
+        (place_of firsts.now stand.now.constants.items (slice_index stand.now.held.parts.items j)) None }
+    ensures count { length places.new.items ≡ length places.old.items }
+    ensures flags { length changed.new.items ≡ length changed.old.items }
+{
+    if is_idle(stand, places.as_slice(), j) {
+        clear_flag(changed, j);
+        return false;
+    }
+    let place = place_part(stand, firsts, j);
+    set_place(places, changed, j, &place)
+}
+
+/// Whether the part at an index has no class, and no place.
+fn is_idle(stand: &TransferTracker, places: &[Option<Place>], j: usize) -> bool
+    requires { j < length stand.now.held.parts.items }
+    ensures class { result ≡ true → slice_index stand.now.held.parts.items j ≡ 0 }
+    ensures place { result ≡ true → slice_index_or places.now j None ≡ None }
+{
+    match part_class(stand, j) {
+        0 => has_no_place(places, j),
+        _ => false,
+    }
+}
+
+fn part_class(stand: &TransferTracker, j: usize) -> usize
+    requires { j < length stand.now.held.parts.items }
+    ensures { result ≡ slice_index stand.now.held.parts.items j }
+{
+    stand.held.parts[j]
+}
+
+fn has_no_place(places: &[Option<Place>], j: usize) -> bool
+    ensures { result ≡ true → slice_index_or places.now j None ≡ None }
+{
+    match places.get(j) {
+        Some(place) => place.is_none(),
+        None => true,
+    }
+}
+
+fn clear_flag(changed: &mut Vec<bool>, j: usize)
+    requires { j < length changed.old.items }
+    ensures changed { (k : ℕ) → slice_index_or changed.new.items k false
+        ≡ cond (nat_eq k j) false (slice_index_or changed.old.items k false) }
+    ensures count { length changed.new.items ≡ length changed.old.items }
+{
+    changed[j] = false;
 }
 
 /// Sets the place of the part at an index, and its flag to whether that changes it, which is returned.
@@ -118,14 +187,19 @@ fn place_part(stand: &TransferTracker, firsts: &[Option<usize>], j: usize) -> Op
     }
 }
 
-/// Extends a table to the class of each location.
-fn make_room(firsts: &mut Vec<Option<usize>>, places: &[usize]) -> Result<(), AllocError>
-    requires { IsEmpty firsts.old.items }
+/// Extends a table to the class of each location. Those from an index on have no class.
+fn make_room(
+    firsts: &mut Vec<Option<usize>>,
+    places: &[usize],
+    end: usize,
+) -> Result<(), AllocError>
+    requires empty { IsEmpty firsts.old.items }
+    requires within { end ≤ length places.now }
+    requires rest { (i : ℕ) → end ≤ i → slice_index places.now i ≡ 0 }
     ensures empty { OnOk result (IsEmpty firsts.new.items) }
     ensures room { OnOk result ((i : ℕ) → i < length places.now → slice_index places.now i < length firsts.new.items) }
 {
     extend(firsts, 0)?;
-    let end = end_of(places);
     for i in 0..end {
         extend(firsts, places[i])?;
     }

@@ -9,6 +9,9 @@ ghost use Rattle.read_lexer.specs.Comment.{before, before_comment, before_memory
 pub fn before_comment(line: &[u8]) -> &[u8]
     ensures { result.now ≡ before_comment line.now }
 {
+    if !line.contains(&b';') {
+        return line;
+    }
     before(line, b";")
 }
 
@@ -16,6 +19,9 @@ pub fn before_comment(line: &[u8]) -> &[u8]
 pub fn before_memory_operands(line: &[u8]) -> &[u8]
     ensures { result.now ≡ before_memory_operands line.now }
 {
+    if !line.contains(&b':') {
+        return line;
+    }
     before(line, b"::")
 }
 

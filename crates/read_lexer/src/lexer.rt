@@ -1,6 +1,6 @@
 //! The tokens of a line.
 
-ghost use Rattle.std.specs.Prelude.{ℕ, IfOk, IsErrOf};
+ghost use Rattle.std.specs.Prelude.{◌≡◌, ℕ, [], IfOk, IsErrOf};
 ghost use Rattle.std.specs.List.{AllByRecursion};
 ghost use Rattle.read_lexer.specs.Spelling.{IsLongest, BeginsNothing};
 ghost use Rattle.read_lexer.specs.Line.{Gives, tokens_of, AreSpans, IsUnclosed};
@@ -10,7 +10,10 @@ use crate::fault::LexError;
 use crate::front::token_at;
 use crate::parts::Tokens;
 use base_list::List;
-use std::alloc::Global;
+use std::alloc::{AllocError, Global};
+
+/// How many tokens there is room for at first. Most lines have no more.
+const ROOM: usize = 16;
 
 /// The tokens of a line, from left to right, or its leftmost fault. `floats` is whether floating-point literals are
 /// tokens.
@@ -26,7 +29,7 @@ pub fn tokens(alloc: Global, floats: bool, line: &[u8]) -> Result<Tokens, LexErr
     // Such a quote opens a text that nothing closes.
     ensures unclosed { (at : ℕ) → IsErrOf result (LexError.UnclosedString at) → IsUnclosed line.now at }
 {
-    let mut tokens = List::new(alloc);
+    let mut tokens = no_tokens(alloc)?;
     let mut at = 0;
     while at < line.len() {
         let first = line[at];
@@ -39,4 +42,12 @@ pub fn tokens(alloc: Global, floats: bool, line: &[u8]) -> Result<Tokens, LexErr
         }
     }
     Ok(tokens)
+}
+
+/// No tokens yet, with room for those of most lines.
+fn no_tokens(alloc: Global) -> Result<Tokens, AllocError>
+    ensures { IfOk result (λ ts. ts ≡ []) }
+{
+    let room = Vec::with_capacity(alloc, ROOM)?;
+    Ok(List::from(room))
 }

@@ -1,7 +1,7 @@
 //! One line of a function's body, parsed.
 
-ghost use Rattle.std.specs.Prelude.{◌≡◌, ◌≤◌, ◌&&◌, codes, drop, length, min};
-ghost use Rattle.std.specs.List.{prefix_len};
+ghost use Rattle.std.specs.Prelude.{◌≡◌, ◌≤◌, ◌&&◌, true, false, nat_eq, codes, drop, length, min};
+ghost use Rattle.std.specs.List.{prefix_len, starts_with};
 ghost use Rattle.read_lexer.specs.Bytes.{is_blank};
 ghost use Rattle.read_lexer.specs.Line.{tokens_of};
 ghost use Rattle.read_line.specs.Body.{
@@ -191,12 +191,35 @@ fn stands_in(word: &[u8], text: &[u8]) -> bool
 {
     let mut rest = text;
     while let [_, behind @ ..] = rest {
-        if rest.starts_with(word) {
+        if begins(rest, word) {
             return true;
         }
         rest = behind;
     }
     false
+}
+
+/// Whether a text begins with these bytes. Mostly its first byte tells.
+fn begins(text: &[u8], word: &[u8]) -> bool
+    ensures { result ≡ starts_with nat_eq text.now word.now }
+{
+    if differ(text, word) {
+        return false;
+    }
+    text.starts_with(word)
+}
+
+/// Whether both texts have a first byte, and it isn't the same.
+fn differ(text: &[u8], word: &[u8]) -> bool
+    ensures { result ≡ true → starts_with nat_eq text.now word.now ≡ false }
+{
+    if text.is_empty() {
+        return false;
+    }
+    if word.is_empty() {
+        return false;
+    }
+    text[0] != word[0]
 }
 
 /// Whether a memory operand behind the code of a line is volatile.

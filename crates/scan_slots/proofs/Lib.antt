@@ -10,5 +10,4 @@ pub mod Originless
 pub mod Sizes
 pub use Rattle.scan_rule.proofs.pass_liveness as pass_liveness
 pub use Rattle.scan_rule.proofs.scan_allocation as scan_allocation
-pub use Rattle.scan_rule.proofs as scan_rule
 pub use Rattle.scan_rule.proofs.spill_proof as spill_proof

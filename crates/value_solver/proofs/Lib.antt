@@ -1,6 +1,8 @@
 pub mod Numbers
 mod Pairing
 pub mod Empty
+pub mod Renumbering
+pub mod Clearing
 pub mod Edges
 pub mod Exits
 pub mod Handing

@@ -86,3 +86,8 @@ pub record IsJoin (n : ℕ) (hands : List Hand) (e : BlockEntry) : Type 0 where
   pub one : (x y : ℕ) → alike e x y ≡ list_all (agree x y) hands
   pub bit : (i : ℕ) → i < n → slice_index_or e.given i false ≡ list_all (λ h. hand_bit h i) hands
   pub numbered : (m : ℕ) × IsNumbered 1 e.classes m
+
+-- the entry while hands are joined: their join, or an unreached entry while there is none
+pub record IsJoined (n : ℕ) (hands : List Hand) (e : BlockEntry) : Type 0 where
+  pub some : e.reached ≡ true → IsJoin n hands e
+  pub none : e.reached ≡ false → hands ≡ []

@@ -17,3 +17,9 @@ pub record IsMeet (a b c : List ℕ) : Type 0 where
   pub long : length c ≡ length a
   pub one : (x y : ℕ) → (class_in c x ≡ class_in c y) ↔ ((class_in a x ≡ class_in a y) × (class_in b x ≡ class_in b y))
   pub numbered : (m : ℕ) × IsNumbered 1 c m
+
+-- the same partition, numbered by first appearance: two entities have the same class in c if and only if they have in b
+pub record IsRenumbered (b c : List ℕ) : Type 0 where
+  pub long : length c ≡ length b
+  pub one : (x y : ℕ) → (class_in c x ≡ class_in c y) ↔ (class_in b x ≡ class_in b y)
+  pub numbered : (m : ℕ) × IsNumbered 1 c m

@@ -6,6 +6,7 @@ ghost use Rattle.value_solver.specs.Joining.{Hand, IsJoin, IsPast};
 use crate::entry::BlockEntry;
 use crate::hand::Exit;
 use crate::meet::{Pairs, meet};
+use crate::renumber::renumbered;
 use base_list::List;
 use std::alloc::{AllocError, Global};
 
@@ -23,6 +24,21 @@ pub fn empty_join(alloc: Global, things: usize) -> Result<BlockEntry, AllocError
         reached: false,
         classes,
         given,
+    })
+}
+
+/// The join of one exit alone.
+pub fn alone(alloc: Global, pairs: &mut Pairs, exit: Exit) -> Result<BlockEntry, AllocError>
+    requires { length exit.classes.items < 4294967295 }
+    ensures { IfOk result (λ e. (h : Hand) → IsPast h exit.classes.items exit.given.items
+        → IsJoin (length exit.classes.items) (h ∷ []) e) }
+{
+    let Exit { classes, given } = exit;
+    let numbers = renumbered(alloc, &mut pairs.numbers, classes.as_slice())?;
+    Ok(BlockEntry {
+        reached: true,
+        classes: List::from(numbers),
+        given: List::from(given),
     })
 }
 

@@ -5,8 +5,10 @@ ghost use Rattle.std.specs.HashMap.{get};
 ghost use Rattle.value_solver.specs.Numbering.{IsMeet};
 ghost use Rattle.value_solver.specs.PairNumbers.{IsNumber, IsTidy, number_at, number_behind, number_in, is_pair};
 
+use crate::renumber::Numbers;
 use std::alloc::{AllocError, Global};
 use std::collections::HashMap;
+use std::mem;
 
 /// The pairs of classes that a join has met, with their numbers. One serves all joins.
 #[derive(Drop)]
@@ -14,9 +16,12 @@ pub struct Pairs {
     /// For each class of the second list below this length the first pair of it that was met, if one was.
     pub firsts: Vec<Option<First>>,
     /// For each class of the first list below this length the first pair of it that isn't among those, if one was met.
+    /// There is room from the first such pair on.
     pub seconds: Vec<Option<First>>,
     /// The numbers of all other pairs.
     pub others: HashMap<(u32, u64), u32>,
+    /// The numbers of classes, where those of one list are numbered anew.
+    pub numbers: Numbers,
 }
 
 /// A pair, of a known class of one of the lists.
@@ -36,11 +41,11 @@ pub fn meet(alloc: Global, pairs: &mut Pairs, a: &[u32], b: &[u64]) -> Result<Ve
     ensures { IfOk result (λ c. IsMeet a.now b.now c.items) }
 {
     pairs.forget(alloc, b.len() + 1)?;
-    pairs.put(0, 0, 0)?;
+    pairs.put(alloc, 0, 0, 0)?;
     let mut count = 1u32;
     let mut classes = Vec::with_capacity(alloc, a.len())?;
     for i in 0..a.len() {
-        let number = pairs.number(a[i], b[i], &mut count)?;
+        let number = pairs.number(alloc, a[i], b[i], &mut count)?;
         classes.push(number)?;
     }
     Ok(classes)
@@ -53,6 +58,7 @@ impl Pairs {
             firsts: Vec::new(alloc),
             seconds: Vec::new(alloc),
             others: HashMap::new(alloc),
+            numbers: Numbers::new(alloc),
         }
     }
 
@@ -61,24 +67,31 @@ impl Pairs {
         ensures none { OnOk result ((k : ℕ × ℕ) → number_in self.new k ≡ None) }
         ensures tidy { OnOk result (IsTidy self.new) }
     {
-        self.firsts = no_firsts(alloc, classes)?;
-        self.seconds = no_firsts(alloc, classes)?;
+        let firsts = mem::replace(&mut self.firsts, Vec::new(alloc));
+        self.firsts = renewed(alloc, firsts, classes)?;
+        self.seconds = Vec::new(alloc);
         self.others.clear();
         Ok(())
     }
 
     /// The number of a pair: that which it has, or the next one, which it gets.
-    fn number(&mut self, a: u32, b: u64, next: &mut u32) -> Result<u32, AllocError>
+    fn number(&mut self, alloc: Global, a: u32, b: u64, next: &mut u32) -> Result<u32, AllocError>
         requires few { next.old < 4294967295 }
         requires tidy { IsTidy self.old }
         ensures number { IfOk result (λ n. IsNumber (number_in self.old) (number_in self.new) (a, b) next.old next.new n) }
         ensures tidy { OnOk result (IsTidy self.new) }
     {
+        if has_room(self.firsts.as_slice(), b as usize) {
+            let number = *next;
+            self.put_first(a, b, number);
+            *next += 1;
+            return Ok(number);
+        }
         match self.find(a, b) {
             Some(number) => Ok(number),
             None => {
                 let number = *next;
-                self.put(a, b, number)?;
+                self.put(alloc, a, b, number)?;
                 *next += 1;
                 Ok(number)
             }
@@ -131,32 +144,44 @@ impl Pairs {
     }
 
     /// Gives a pair that wasn't met a number.
-    fn put(&mut self, a: u32, b: u64, number: u32) -> Result<(), AllocError>
+    fn put(&mut self, alloc: Global, a: u32, b: u64, number: u32) -> Result<(), AllocError>
         requires unmet { number_in self.old (a, b) ≡ None }
         requires tidy { IsTidy self.old }
         ensures put { OnOk result ((k : ℕ × ℕ) →
             number_in self.new k ≡ cond (is_pair (a, b) k) (Some number) (number_in self.old k)) }
         ensures tidy { OnOk result (IsTidy self.new) }
     {
-        let index = b as usize;
-        if has_room(self.firsts.as_slice(), index) {
-            let first = First {
-                class: u64::from(a),
-                number,
-            };
-            set_first(&mut self.firsts, index, first);
+        if has_room(self.firsts.as_slice(), b as usize) {
+            self.put_first(a, b, number);
             Ok(())
         } else {
-            self.put_second(a, b, number)
+            self.put_second(alloc, a, b, number)
         }
     }
 
+    /// Gives a pair a number, as the first one of its second class.
+    fn put_first(&mut self, a: u32, b: u64, number: u32)
+        requires room { b < length self.old.firsts.items }
+        requires free { slice_index_or self.old.firsts.items b None ≡ None }
+        requires tidy { IsTidy self.old }
+        ensures put { (k : ℕ × ℕ) →
+            number_in self.new k ≡ cond (is_pair (a, b) k) (Some number) (number_in self.old k) }
+        ensures tidy { IsTidy self.new }
+    {
+        let first = First {
+            class: u64::from(a),
+            number,
+        };
+        set_first(&mut self.firsts, b as usize, first);
+    }
+
     /// Gives a pair that wasn't met, and isn't the first one of its second class, a number.
-    fn put_second(&mut self, a: u32, b: u64, number: u32) -> Result<(), AllocError>
+    fn put_second(&mut self, alloc: Global, a: u32, b: u64, number: u32) -> Result<(), AllocError>
         requires { number_behind self.old (a, b) ≡ None }
         ensures { OnOk result ((self.new.firsts.items ≡ self.old.firsts.items) × ((k : ℕ × ℕ) →
             number_behind self.new k ≡ cond (is_pair (a, b) k) (Some number) (number_behind self.old k))) }
     {
+        self.make_room(alloc)?;
         let index = a as usize;
         if has_room(self.seconds.as_slice(), index) {
             set_first(&mut self.seconds, index, First { class: b, number });
@@ -164,6 +189,43 @@ impl Pairs {
         } else {
             put_other(&mut self.others, a, b, number)
         }
+    }
+
+    /// Makes room for first pairs by their first class, where there is none.
+    fn make_room(&mut self, alloc: Global) -> Result<(), AllocError>
+        ensures { OnOk result ((self.new.firsts.items ≡ self.old.firsts.items) × ((k : ℕ × ℕ) →
+            number_behind self.new k ≡ number_behind self.old k)) }
+    {
+        if !self.seconds.is_empty() {
+            return Ok(());
+        }
+        self.seconds = no_firsts(alloc, self.firsts.len())?;
+        Ok(())
+    }
+}
+
+/// A table of this length without pairs: the one given, if it has this length.
+fn renewed(
+    alloc: Global,
+    firsts: Vec<Option<First>>,
+    length: usize,
+) -> Result<Vec<Option<First>>, AllocError>
+    ensures { IfOk result (λ firsts. (k : ℕ) → slice_index_or firsts.items k None ≡ None) }
+{
+    if firsts.len() != length {
+        return no_firsts(alloc, length);
+    }
+    let mut firsts = firsts;
+    clear(&mut firsts);
+    Ok(firsts)
+}
+
+/// Takes all pairs out of a table.
+fn clear(firsts: &mut Vec<Option<First>>)
+    ensures { (k : ℕ) → slice_index_or firsts.new.items k None ≡ None }
+{
+    for i in 0..firsts.len() {
+        firsts[i] = None;
     }
 }
 

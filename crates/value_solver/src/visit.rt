@@ -1,21 +1,22 @@
 //! A visit of a block: its entry becomes the join of what its predecessors propagate now.
 
-ghost use Rattle.std.specs.Prelude.{◌≡◌, ◌↔◌, ◌<◌, List, ◌++◌, Some, length, IfOk};
+ghost use Rattle.std.specs.Prelude.{◌≡◌, ◌↔◌, ◌<◌, ℕ, List, ◌++◌, Some, length, IfOk};
 ghost use Rattle.std.specs.Prelude.{All, IsTrue, true, false, []};
 ghost use Rattle.dataflow.specs.Graph.{ArePredecessors};
-ghost use Rattle.value_solver.specs.Joining.{IsKnown, AreWithin, IsJoin, Hand};
+ghost use Rattle.value_solver.specs.Joining.{IsKnown, AreWithin, IsJoin, IsJoined, Hand};
 ghost use Rattle.value_solver.specs.Hands.{IsShaped, AreSoundFlows, handed, first_hand, hand_by};
 ghost use Rattle.value_solver.specs.Hands.{ways_of, Visited};
 
 use crate::entry::BlockEntry;
 use crate::flow::Flow;
 use crate::hand::{Exit, hand_on};
-use crate::join::{empty_join, join};
+use crate::join::{alone, empty_join, join};
 use crate::meet::Pairs;
+use base_list::List;
 use dataflow::graph::Ways;
 use std::alloc::{AllocError, Global};
 
-/// The join of what the start entry propagates into a block.
+/// What the start entry propagates into a block.
 fn first_join(
     alloc: Global,
     pairs: &mut Pairs,
@@ -24,15 +25,25 @@ fn first_join(
 ) -> Result<BlockEntry, AllocError>
     requires few { length start.now.classes < 4294967295 }
     requires known { IsKnown (length start.now.classes) start.now }
-    ensures { IfOk result (λ e. IsJoin (length start.now.classes) (first_hand start.now block) e) }
+    ensures { IfOk result (λ e. IsJoined (length start.now.classes) (first_hand start.now block) e) }
 {
-    let empty = empty_join(alloc, start.classes.len())?;
     match block {
         0 => {
             let exit = hand_on(alloc, start, &[])?;
-            join(alloc, pairs, empty, &exit)
+            alone(alloc, pairs, exit)
         }
-        _ => Ok(empty),
+        _ => Ok(nothing_joined(alloc)),
+    }
+}
+
+/// The entry that nothing was propagated into yet.
+fn nothing_joined(alloc: Global) -> BlockEntry
+    ensures { (n : ℕ) → IsJoined n [] result }
+{
+    BlockEntry {
+        reached: false,
+        classes: List::new(alloc),
+        given: List::new(alloc),
     }
 }
 
@@ -40,20 +51,25 @@ fn first_join(
 fn join_more(
     alloc: Global,
     pairs: &mut Pairs,
+    things: usize,
     joined: BlockEntry,
     entry: &BlockEntry,
     flow: &Flow,
 ) -> Result<BlockEntry, AllocError>
-    requires few { length joined.classes < 4294967295 }
-    requires shaped { IsShaped (length joined.classes) entry.now }
-    requires within { AreWithin (length joined.classes) flow.now.changes }
-    ensures { IfOk result (λ e. (hands : List Hand) → IsJoin (length joined.classes) hands joined
-        → IsJoin (length joined.classes) (hands ++ hand_by (Some entry.now) (Some flow.now)) e) }
+    requires few { things < 4294967295 }
+    requires long { joined.reached ≡ true → length joined.classes ≡ things }
+    requires shaped { IsShaped things entry.now }
+    requires within { AreWithin things flow.now.changes }
+    ensures { IfOk result (λ e. (hands : List Hand) → IsJoined things hands joined
+        → IsJoined things (hands ++ hand_by (Some entry.now) (Some flow.now)) e) }
 {
     if !entry.reached {
         return Ok(joined);
     }
     let exit = hand_on(alloc, entry, flow.changes.as_slice())?;
+    if !joined.reached {
+        return alone(alloc, pairs, exit);
+    }
     join(alloc, pairs, joined, &exit)
 }
 
@@ -76,15 +92,20 @@ fn joined(
     ensures { IfOk result (λ e.
         IsJoin (length start.now.classes) (handed start.now flows.now entries.now block predecessors.now) e) }
 {
+    let things = start.classes.len();
     let mut joined = first_join(alloc, pairs, start, block)?;
     for p in predecessors {
         joined = join_more(
             alloc,
             pairs,
+            things,
             joined,
             &entries[*p as usize],
             &flows[*p as usize],
         )?;
+    }
+    if !joined.reached {
+        return empty_join(alloc, things);
     }
     Ok(joined)
 }

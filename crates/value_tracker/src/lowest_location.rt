@@ -3,14 +3,15 @@
 ghost use Rattle.std.specs.Prelude.{◌≡◌, ◌≢◌, ◌<◌, ◌≤◌, ℕ, None, length, slice_index, slice_index_or};
 ghost use Rattle.value_tracker.specs.LowestLocation.{IsFirstBelow, AreFirsts};
 
-/// Fills an empty table with the first location index of each class.
-pub fn fill(firsts: &mut [Option<usize>], places: &[usize])
-    requires some { 0 < length places.now }
+/// Fills an empty table with the first location index of each class. The locations from an index on have no class.
+pub fn fill(firsts: &mut [Option<usize>], places: &[usize], end: usize)
+    requires some { 0 < end }
+    requires within { end ≤ length places.now }
+    requires rest { (i : ℕ) → end ≤ i → slice_index places.now i ≡ 0 }
     requires empty { (c : ℕ) → slice_index_or firsts.old c None ≡ None }
     requires room { (i : ℕ) → i < length places.now → slice_index places.now i < length firsts.old }
     ensures { AreFirsts places.now firsts.new }
 {
-    let end = end_of(places);
     for i in 1..end {
         add(firsts, places[i], i);
     }
@@ -60,13 +61,14 @@ fn add(firsts: &mut [Option<usize>], class: usize, i: usize)
     }
 }
 
-/// Empties a table that was filled from these locations.
-pub fn empty(firsts: &mut [Option<usize>], places: &[usize])
+/// Empties a table that was filled from these locations. Those from an index on have no class.
+pub fn empty(firsts: &mut [Option<usize>], places: &[usize], end: usize)
+    requires within { end ≤ length places.now }
+    requires rest { (i : ℕ) → end ≤ i → slice_index places.now i ≡ 0 }
     requires filled { AreFirsts places.now firsts.old }
     requires room { (i : ℕ) → i < length places.now → slice_index places.now i < length firsts.old }
     ensures { (c : ℕ) → slice_index_or firsts.new c None ≡ None }
 {
-    let end = end_of(places);
     for i in 1..end {
         firsts[places[i]] = None;
     }

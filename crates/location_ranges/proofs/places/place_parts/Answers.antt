@@ -59,7 +59,7 @@ module _ (initial old new : List (Option Place)) (changed flags : List Bool) (i 
 pub loop-j-preserved : goal.loop-j-preserved
 loop-j-preserved c =
     let l = c.loop-j in
-    let s = c.set_place-moved in
+    let s = c.renew_place-moved in
     let inv = l.invariant in
     let stand = c.args.stand.now in
     let first = c.args.places.now.items in
@@ -67,12 +67,12 @@ loop-j-preserved c =
     let new = s.new.places.items in
     let changed = l.changed.items in
     let flags = s.new.changed.items in
-    let p = c.place_part-place.result in
     let f : ℕ → Option Place = λ k. cond stand.reached (place_of c.args.firsts.now stand.constants.items (slice_index stand.held.parts.items k)) None in
+    let p = f l.j in
     record {
       count = s.ensures.count ∙ inv.count;
       flags = s.ensures.flags ∙ inv.flags;
-      set = set_more first old new changed flags l.j p s.result s.ensures.places s.ensures.changed f inv.set c.place_part-place.ensures;
+      set = set_more first old new changed flags l.j p s.result s.ensures.places s.ensures.changed f inv.set refl;
       rest = rest_more first old new changed flags l.j p s.result s.ensures.places s.ensures.changed inv.rest;
       same = same_more first old new changed flags l.j p s.result s.ensures.places s.ensures.changed s.ensures.same (inv.rest l.j (omega arith)) inv.same;
       quiet = quiet_more first old new changed flags l.j p s.result s.ensures.places s.ensures.changed l.any c.either-any.result inv.quiet c.either-any.ensures;

@@ -14,7 +14,7 @@ loop-at-preserved-then-is_blank c = record {
 
 pub returns-in_err-token : goal.returns-in_err-token
 returns-in_err-token c =
-    let p = err_from_is_err_and c.from_residual.result c.from_residual.ensures.1 in
+    let p = err_from_is_err_and c.from_residual-in_err-token.result c.from_residual-in_err-token.ensures.1 in
     let exact : Gives {A = List Token} (Err c.in_err-token.field-0.0) (tokens_of c.args.floats c.args.line.now) =
     gives_fault c.in_err-token.field-0.0 _ (sym c.loop-at.invariant.read ∙ stops c.args.floats c.loop-at.tokens c.loop-at.at c.args.line.now _ c.loop-at-test.true (sym
     c.if-is_blank.ensures) (sym c.in_err-token.ensures)) in

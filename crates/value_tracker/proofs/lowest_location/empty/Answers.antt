@@ -68,12 +68,12 @@ loop-i-init c = first_left c.args.places.now c.args.firsts.now c.requires.filled
 
 pub loop-i-preserved : goal.loop-i-preserved
 loop-i-preserved c = left_on c.args.places.now c.loop-i.firsts c.loop-i.i (omega
-    (arith, c.requires.room c.loop-i.i (omega (arith, c.loop-i-test.true, c.end_of-end.ensures.within)), c.loop-i.auto.firsts)) c.loop-i.invariant
+    (arith, c.requires.room c.loop-i.i (omega (arith, c.loop-i-test.true, c.requires.within)), c.loop-i.auto.firsts)) c.loop-i.invariant
 
 pub returns : goal.returns
 returns c = λ k. elim (eqb_tells k 0) [
   | inl h ↦ ap (λ (n : ℕ). get_or c.clear_first.new.firsts n None) h.1 ∙ c.clear_first.ensures.none
   | inr h ↦
       c.clear_first.ensures.others k h.1
-      ∙ none_left c.args.places.now c.loop-i.firsts c.end_of-end.result c.loop-i.i c.loop-i-test.false c.end_of-end.ensures.rest c.loop-i.invariant k h.1
+      ∙ none_left c.args.places.now c.loop-i.firsts c.args.end c.loop-i.i c.loop-i-test.false c.requires.rest c.loop-i.invariant k h.1
 ]

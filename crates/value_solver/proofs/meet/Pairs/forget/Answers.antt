@@ -5,8 +5,8 @@ use Rattle.value_solver.proofs.meet.Pairs.forget.Goals as goal
 
 pub returns-clause-none : goal.returns-clause-none
 returns-clause-none c = λ k.
-    rw (c.in_ok-self.ensures k.1) (rw (c.in_ok-self-2.ensures k.0) (ap (λ (es : List ((ℕ × ℕ) × ℕ)). lookup (is_pair k) es) c.clear.ensures.empty))
+    rw (c.in_ok-self.ensures k.1) (rw c.new-2.ensures.items (ap (λ (es : List ((ℕ × ℕ) × ℕ)). lookup (is_pair k) es) c.clear.ensures.empty))
 
 pub returns-clause-tidy : goal.returns-clause-tidy
 returns-clause-tidy c = λ k lt none.
-    rw (c.in_ok-self-2.ensures k.0) (ap (λ (es : List ((ℕ × ℕ) × ℕ)). lookup (is_pair k) es) c.clear.ensures.empty)
+    rw c.new-2.ensures.items (ap (λ (es : List ((ℕ × ℕ) × ℕ)). lookup (is_pair k) es) c.clear.ensures.empty)

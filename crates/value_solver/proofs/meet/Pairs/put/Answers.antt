@@ -1,9 +1,9 @@
-use Rattle.std.proofs.Common.{◌≡◌, ◌<◌, ℕ, List, length, sym, ap, ◌∙◌, subst, arith}
-use Rattle.std.specs.Prelude.{Option, Some, None, cond, nat_eq, slice_index_or}
+use Rattle.std.proofs.Common.{◌≡◌, ◌<◌, ℕ, List, length, sym, ap, ◌∙◌, subst}
+use Rattle.std.specs.Prelude.{Option, None, slice_index_or}
 use Rattle.std.proofs.lemmas.Result.{on_ok_weaker}
 use Rattle.value_solver.specs.declared.meet.First.{First}
 use Rattle.value_solver.specs.PairNumbers.{number_at, number_behind}
-use Rattle.value_solver.proofs.Pairing.{put_first, put_behind, none_behind, tidy_first, tidy_behind}
+use Rattle.value_solver.proofs.Pairing.{put_behind, none_behind, tidy_behind}
 use Rattle.value_solver.proofs.meet.Pairs.put.Goals as goal
 
 pub put_second-requires : goal.put_second-requires
@@ -12,20 +12,10 @@ put_second-requires c =
     c.requires.unmet
 
 pub returns-then-has_room-clause-put : goal.returns-then-has_room-clause-put
-returns-then-has_room-clause-put c =
-    let put = subst (λ (m : ℕ). (v : ℕ) → slice_index_or c.set_first.new.firsts.items v None
-    ≡ cond (nat_eq v c.args.b) (Some (record { class = m; number = c.args.number })) (slice_index_or c.args.self.now.firsts.items v None))
-    c.from.ensures c.set_first.ensures.put in
-    put_first (λ (v : ℕ). slice_index_or c.args.self.now.firsts.items v None) (λ (v : ℕ). slice_index_or c.set_first.new.firsts.items v None)
-    (number_behind c.args.self.now) c.args.a c.args.b c.args.number (ap (λ (xs : List (Option First)). slice_index_or xs c.args.b None)
-    (sym c.as_slice.ensures.value) ∙ c.has_room.ensures.free c.if-has_room.true) put
+returns-then-has_room-clause-put c = c.put_first.ensures.put
 
 pub returns-then-has_room-clause-tidy : goal.returns-then-has_room-clause-tidy
-returns-then-has_room-clause-tidy c = λ k lt none.
-    let old = c.args.self.now in
-    tidy_first (λ (v : ℕ). slice_index_or old.firsts.items v None) (λ (v : ℕ). slice_index_or c.set_first.new.firsts.items v None)
-    (number_behind old) c.args.b (length old.firsts.items) (record { class = c.from.result; number = c.args.number }) c.set_first.ensures.put c.requires.tidy k
-    (omega (arith, lt, c.set_first.ensures.count)) none
+returns-then-has_room-clause-tidy c = c.put_first.ensures.tidy
 
 pub returns-else-has_room-clause-put : goal.returns-else-has_room-clause-put
 returns-else-has_room-clause-put c =

@@ -1,0 +1,9 @@
+use Rattle.std.proofs.Common.{◌≡◌, ◌<◌, ℕ, length}
+use Rattle.std.specs.Prelude.{None, slice_index_or}
+use Rattle.value_solver.proofs.renumber.clear.Given as goal
+
+abbrev pub invariant-loop-i : goal.invariant-loop-i
+invariant-loop-i l = record {
+  count : length l.numbers.items ≡ length l.initial.numbers.items;
+  empty : (k : ℕ) → k < l.i → slice_index_or l.numbers.items k None ≡ None;
+}
