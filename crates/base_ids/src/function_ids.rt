@@ -1,7 +1,9 @@
 //! Numbers in the text of a function.
 
 ghost use Rattle.std.specs.Prelude.{◌≡◌};
+ghost use Rattle.base_ids.specs.Limits.{text_number};
 
+use crate::limits::FIXED;
 use std::marker::Model;
 
 /// The N of a block `bb.N` (LLVM, Machine IR (MIR) Format Reference Manual, "Machine Basic Blocks").
@@ -51,7 +53,7 @@ impl SlotId {
     }
 }
 
-/// The N of a stack object `%stack.N` that is no slot.
+/// The number of a stack object: the N of `%stack.N` that is no slot, or the N of `%fixed-stack.N` plus `FIXED`.
 #[derive(Clone, Copy, Debug, PartialEq, Eq, PartialOrd, Ord)]
 pub struct ObjectId(pub u32);
 
@@ -71,6 +73,17 @@ impl ObjectId {
         ensures { result ≡ self }
     {
         self.0
+    }
+
+    /// The N of its text.
+    pub fn text_number(self) -> u32
+        ensures { result ≡ text_number self }
+    {
+        if FIXED <= self.0 {
+            self.0 - FIXED
+        } else {
+            self.0
+        }
     }
 }
 

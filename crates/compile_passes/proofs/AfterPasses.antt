@@ -24,20 +24,19 @@ use Rattle.mir_func.specs.declared.variable.VarId.{VarId}
 use Rattle.mir_func.specs.Calls.{is_call_kind}
 use Rattle.mir_func.specs.Function.{Function}
 use Rattle.mir_func.specs.Limits.{MAX_SLOTS}
-use Rattle.mir_func.specs.Objects.{HasNoFixed}
 use Rattle.base_ids.specs.Limits.{MAX_NUMBER}
 use Rattle.mir_func.specs.Resolve.{resolve}
 use Rattle.mir_func.specs.Sound.{AllItems, items_of, IsSound, HasForm}
 use Rattle.sem_mir.proofs.Reading.{follows_itself, whole_ends_of_itself}
 use Rattle.listing_proof.specs.read_program.declared.closing.Parsed.{Parsed}
 use Rattle.listing_proof.specs.read_program.Limited.{KindIsLimited, LocIsLimited}
-use Rattle.listing_proof.specs.mir_printer.Printable.{IsNumber, IsPrintablePlace, IsPrintableLoc, IsPrintableVariable}
+use Rattle.listing_proof.specs.mir_printer.Printable.{IsPrintablePlace, IsPrintableLoc, IsPrintableVariable}
 use Rattle.pass_trait.specs.Change.{change}
 use Rattle.pass_trait.specs.declared.loss.Loss.{Loss}
 use Rattle.pass_trait.specs.Simulation.{Source, SimulatesSource, EndsAsSource, PreservesSimulation}
 use Rattle.pass_trait.specs.Sizes.{greatest, numbers_of, greatest_number, most_numbers, item_count, call_count, IsPhysical}
 use Rattle.listing_proof.specs.listing_text.Shown.{declared_by, IsPrintableEntry}
-use Rattle.listing_proof.specs.listing_function.Printable.{IsPrintableFramedKind}
+use Rattle.listing_proof.specs.listing_function.Printable.{IsPrintableNumber, IsPrintableFramedKind}
 use Rattle.listing_proof.proofs.Framed.{read_bodies}
 use Rattle.listing_proof.specs.Laws.{inlined_in, IsPrintableBlock}
 use Rattle.compile_theorem.proofs.Variables.{own_marks}
@@ -287,12 +286,12 @@ module _ (meta : Maps) (q : Parsed) (reserve : List ℕ) (passes : List PassKind
       };
       name = shown.name;
       physical = growth.physical physical;
-      unfixed = subst HasNoFixed (sym follows.objects) read.unfixed;
       marks = in_blocks (λ i. MarksOneOf vs i.kind) f.blocks (λ i among. marks_one i i.kind refl among);
     };
     shown = shown;
     printable = record {
-      objects = subst (λ (os : List Object). All (λ o. IsNumber o.id) os) (sym follows.objects) (read_bodies meta q.func read).objects;
+      objects = subst (λ (os : List Object). All (λ o. IsPrintableNumber o.id o.fixed_offset) os) (sym follows.objects)
+          (read_bodies meta q.func read).objects;
       blocks = blocks_print f.blocks typed prints;
     };
     substitutions = All-weaker IsTypedEntry IsPrintableEntry entry_prints subs entries;

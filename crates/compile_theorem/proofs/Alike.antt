@@ -35,47 +35,45 @@ use Rattle.sem_mir.specs.PreferredLocation.{SitsIn, IsPreferredLocation, NoneIsP
 use Rattle.sem_mir.specs.ValueId.{numbered_tokens, given_token}
 use Rattle.sem_mir.specs.State.{updated}
 use Rattle.sem_mir.specs.Step.{defined}
-use Rattle.listing_text.specs.declared.output.ListedObject.{ListedObject}
-use Rattle.listing_meaning.specs.Frame.{last_of, begins_by, has_byte, object_at, in_object, by_pointer, by_object}
-use Rattle.listing_meaning.specs.Listing.{object_listed}
-use Rattle.listing_meaning.specs.Settled.{frame_of, settled_sum, settled_operands, settled_kind, settled_item, settled}
+use Rattle.listing_meaning.specs.Frame.{ShownObject, last_of, begins_by, has_byte, object_at, in_object, by_pointer, by_object}
+use Rattle.listing_meaning.specs.Settled.{object_placed, frame_of, settled_sum, settled_operands, settled_kind, settled_item, settled}
 
 -- ---- the object that is found
 
-record Found (x : Option ListedObject) : Type 0 where
-  object : ListedObject
+record Found (x : Option ShownObject) : Type 0 where
+  object : ShownObject
   is : x ≡ Some object
 
-stays_found : (test : ListedObject → Bool) (o : ListedObject) (os : List ListedObject) → Found (last_of test (Some o) os)
+stays_found : (test : ShownObject → Bool) (o : ShownObject) (os : List ShownObject) → Found (last_of test (Some o) os)
 stays_found test o [] = record { object = o; is = refl }
 stays_found test o (x ∷ os) = by_test (test x) (stays_found test x os) (stays_found test o os) where
   by_test : (b : Bool) → Found (last_of test (Some x) os) → Found (last_of test (Some o) os) → Found (last_of test (cond b (Some x) (Some o)) os)
   by_test true new old = new
   by_test false new old = old
 
-some_begins : (old : Option ListedObject) (os : List Object) (o : Object) (k n : ℕ) → object_of os k ≡ Some o → o.offset ≤ n →
-    Found (last_of (begins_by n) old (map object_listed os))
+some_begins : (old : Option ShownObject) (os : List Object) (o : Object) (k n : ℕ) → object_of os k ≡ Some o → o.offset ≤ n →
+    Found (last_of (begins_by n) old (map object_placed os))
 some_begins old [] o k n is low = absurd cc
 some_begins old (x ∷ os) o k n is low =
-    by_id (nat_eq x.id k) is (λ same. by_first same) (λ more. some_begins (cond (nat_le x.offset n) (Some (object_listed x)) old) os o k n more low) where
+    by_id (nat_eq x.id k) is (λ same. by_first same) (λ more. some_begins (cond (nat_le x.offset n) (Some (object_placed x)) old) os o k n more low) where
       Later : Type 0
-      Later = Found (last_of (begins_by n) (cond (nat_le x.offset n) (Some (object_listed x)) old) (map object_listed os))
+      Later = Found (last_of (begins_by n) (cond (nat_le x.offset n) (Some (object_placed x)) old) (map object_placed os))
 
       by_first : x ≡ o → Later
       by_first same =
           let at : nat_le x.offset n ≡ true = le-leb x.offset n (subst (λ (y : Object). y.offset ≤ n) (sym same) low) in
-          subst (λ (b : Bool). Found (last_of (begins_by n) (cond b (Some (object_listed x)) old) (map object_listed os))) (sym at)
-          (stays_found (begins_by n) (object_listed x) (map object_listed os))
+          subst (λ (b : Bool). Found (last_of (begins_by n) (cond b (Some (object_placed x)) old) (map object_placed os))) (sym at)
+          (stays_found (begins_by n) (object_placed x) (map object_placed os))
 
       by_id : (b : Bool) → cond b (Some x) (object_of os k) ≡ Some o → (x ≡ o → Later) → (object_of os k ≡ Some o → Later) → Later
       by_id true e here more = let same : x ≡ o = cc in here same
       by_id false e here more = more e
 
-some_found : (os : List Object) (o : Object) (k n : ℕ) → object_of os k ≡ Some o → o.offset ≤ n → Found (object_at (map object_listed os) n)
+some_found : (os : List Object) (o : Object) (k n : ℕ) → object_of os k ≡ Some o → o.offset ≤ n → Found (object_at (map object_placed os) n)
 some_found os o k n is low =
     let one = some_begins None os o k n is low in
-    subst (λ (x : Option ListedObject). Found (last_of (has_byte n) x (map object_listed os))) (sym one.is)
-    (stays_found (has_byte n) one.object (map object_listed os))
+    subst (λ (x : Option ShownObject). Found (last_of (has_byte n) x (map object_placed os))) (sym one.is)
+    (stays_found (has_byte n) one.object (map object_placed os))
 
 -- ---- kinds
 
@@ -169,13 +167,13 @@ stores_alike op number rs n m i j rest = record {
 
 module _ (f : FramedFunction) where
   -- an address of an object leads to an object
-  addressed : (n i : ℕ) → HasBytes f.objects n (word (pos i)) → (o : ListedObject) × (by_object (frame_of f) (own_size f + offset_of f.objects n + i) ≡
+  addressed : (n i : ℕ) → HasBytes f.objects n (word (pos i)) → (o : ShownObject) × (by_object (frame_of f) (own_size f + offset_of f.objects n + i) ≡
       OfObject o.id ∷ Imm (pos (own_size f + offset_of f.objects n + i - own_size f - o.offset)) ∷ [])
   addressed n i (o, is, fits) =
       let at : offset_of f.objects n ≡ o.offset = ap offset_or_zero is in
       let x = own_size f + offset_of f.objects n + i in
       let found = some_found f.objects o n (x - own_size f) is (omega (arith, at)) in
-      (found.object, ap (λ (z : Option ListedObject). in_object z (x - own_size f) (by_pointer x)) found.is)
+      (found.object, ap (λ (z : Option ShownObject). in_object z (x - own_size f) (by_pointer x)) found.is)
 
   to_object : (o : ImmediateOp) (rd n i : ℕ) (rest : List Operand) (number : Option ℕ) → HasBytes f.objects n (word (pos i)) →
       AreAlike (sum o rd n (pos i) rest number) (Code (record { op = Immediate o; operands = settled_sum f (Def rd ∷ OfObject n ∷ Imm (pos i) ∷ rest); volatile = false }) number)

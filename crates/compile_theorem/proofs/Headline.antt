@@ -5,7 +5,6 @@ use Rattle.std.specs.Prelude.{Contains}
 use Rattle.mir_func.specs.declared.position.Pos.{Pos}
 use Rattle.mir_func.specs.Function.{FramedFunction}
 use Rattle.mir_func.specs.Graph.{block_start, framed_program}
-use Rattle.mir_func.specs.Objects.{HasNoFixed}
 use Rattle.mir_func.specs.Resolve.{resolve}
 use Rattle.mir_func.specs.Sound.{AllItems}
 use Rattle.sem_mir.specs.PreferredLocation.{IsPreferredLocation}
@@ -63,9 +62,6 @@ first_byte l a p at =
 
 module _ (names : ℕ → List ℕ) (o : Output) (lists : List (List Range)) (section : IsSection o.loclists lists) (passed : PassedFunction) (f : ListedFunction)
     (is : IsPassedFunction passed) (c : IsCompiledIn names o.text lists passed f) where
-  pub unfixed : HasNoFixed c.compiled.layout.framed.objects
-  unfixed = subst (λ (x : FramedFunction). HasNoFixed x.objects) (sym c.compiled.laid.framed) is.unfixed
-
   pub formed : AreFormed c.compiled.layout.framed
   formed = subst (λ (x : FramedFunction). AllItems IsFormed x.blocks) (sym c.compiled.laid.framed)
       (forms_framed passed.function (size_fits passed.function 2032 c.compiled.laid.small) is.follower.form)
@@ -81,7 +77,7 @@ module _ (names : ℕ → List ℕ) (o : Output) (lists : List (List Range)) (se
       let l = c.compiled.layout in
       let at : drop l.base o.text ≡ bytes_of l ++ c.more = ap (λ (n : ℕ). drop n o.text) c.compiled.laid.from ∙ c.words in
       subst (λ (x : ListedFunction). IsImageOf l (image_of o x)) (sym c.compiled.listed) (image_shown l (variable_lines names c.first
-      (variables_of_function passed.source.function.blocks)) passed.substitutions o c.more formed unfixed at)
+      (variables_of_function passed.source.function.blocks)) passed.substitutions o c.more formed at)
 
   give_wanted : GiveSitting (framed_program (framed_of passed.function).blocks (resolve passed.substitutions)) (IsEntryAt c.compiled.layout) (Gives o f)
   give_wanted =

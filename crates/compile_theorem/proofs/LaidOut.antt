@@ -22,7 +22,7 @@ use Rattle.compile_theorem.specs.Source.{PassedFunction, sources_among, IsPassed
 use Rattle.dwarf_unit.specs.Variables.{variables_of_function}
 use Rattle.compile_theorem.proofs.Functions.{IsCompiledIn, compiled_in, as_many, functions_lie, of_sources}
 use Rattle.compile_theorem.proofs.Telling.{all_at}
-use Rattle.compile_theorem.proofs.Headline.{formed, unfixed}
+use Rattle.compile_theorem.proofs.Headline.{formed}
 
 module _ (names : ℕ → List ℕ) (o : Output) (lists : List (List Range)) (section : IsSection o.loclists lists) (passed : PassedFunction) (f : ListedFunction)
     (is : IsPassedFunction passed) (c : IsCompiledIn names o.text lists passed f) where
@@ -42,7 +42,7 @@ module _ (names : ℕ → List ℕ) (o : Output) (lists : List (List Range)) (se
   pub shown : map contents_of (blocks_shown f) ≡ map contents_of (map (settled c.compiled.layout.framed) c.compiled.layout.framed.blocks)
   shown = ap (λ (x : ListedFunction). map contents_of (blocks_shown x)) c.compiled.listed ∙
       function_shown c.compiled.layout (variable_lines names c.first (variables_of_function passed.source.function.blocks)) passed.substitutions framed
-      (formed names o lists section passed f is c) (unfixed names o lists section passed f is c)
+      (formed names o lists section passed f is c)
 
   lists_framed : ListsFramed passed f
   lists_framed = record {

@@ -17,6 +17,5 @@ sources_follow_themselves source is = record {
   };
   name = refl;
   physical = is.physical;
-  unfixed = is.unfixed;
   marks = own_marks source.function.blocks;
 }

@@ -6,7 +6,6 @@ use Rattle.mir_func.specs.declared.item.ItemKind.{ItemKind}
 use Rattle.mir_func.specs.declared.item.ItemKind.TheVariants.{Code, Mark, Phi}
 use Rattle.mir_func.specs.declared.variable.VarId.{VarId}
 use Rattle.mir_func.specs.Function.{Function}
-use Rattle.mir_func.specs.Objects.{HasNoFixed}
 use Rattle.mir_func.specs.Resolve.{resolve}
 use Rattle.mir_func.specs.Sound.{AllItems, IsSound, HasForm}
 use Rattle.mir_func.specs.SoundFrame.{HasPhysical}
@@ -22,13 +21,12 @@ pub record SourceFunction : Type 0 where
   pub exposure : Exposure
 
 -- What a source function satisfies: the origin of each item is its own position, the operands of code have the form of the opcode, registers are
--- physical, the function is sound, and none of its objects is fixed.
+-- physical, and the function is sound.
 pub record IsSourceFunction (source : SourceFunction) : Type 0 where
   pub read : IsRead source.function.blocks
   pub form : AllItems (λ i. HasForm i.kind) source.function.blocks
   pub physical : AllItems (λ i. HasPhysical i.kind) source.function.blocks
   pub sound : IsSound source.function
-  pub unfixed : HasNoFixed source.function.objects
 
 -- a source, and the function and substitutions that passes made of it
 pub record PassedFunction : Type 0 where
@@ -56,7 +54,6 @@ pub record IsPassedFunction (p : PassedFunction) : Type 0 where
   pub follower : IsFollower p.source.function p.function (resolve p.source.substitutions) (resolve p.substitutions)
   pub name : p.function.name ≡ p.source.function.name
   pub physical : AllItems (λ i. HasPhysical i.kind) p.function.blocks
-  pub unfixed : HasNoFixed p.function.objects
   pub marks : AllItems (λ i. MarksOneOf (variables_of_function p.source.function.blocks) i.kind) p.function.blocks
 
 -- The two lists have the same length, and P holds of the n-th elements of both.

@@ -28,7 +28,7 @@ use Rattle.compile_theorem.specs.Laws.{AreCompiledTo}
 use Rattle.compile_theorem.specs.OutputProperties.{variable_lines}
 use Rattle.compile_theorem.specs.Source.{PassedFunction, IsPassedFunction}
 use Rattle.compile_theorem.proofs.Functions.{IsCompiledIn, compiled_in, as_many, of_sources}
-use Rattle.compile_theorem.proofs.Headline.{formed, unfixed}
+use Rattle.compile_theorem.proofs.Headline.{formed}
 use Rattle.compile_theorem.proofs.Telling.{all_at}
 use Rattle.frame_theorem.specs.Compiled.{CompiledUnwinds}
 use Rattle.frame_theorem.specs.Laws.{SparesKept, ShowsFrames}
@@ -138,7 +138,7 @@ module _ (names : ℕ → List ℕ) (functions : List PassedFunction) (o : Outpu
         let at : drop l.base o.text ≡ bytes_of l ++ c.more = ap (λ (n : ℕ). drop n o.text) c.compiled.laid.from ∙ c.words in
         subst (λ (x : ListedFunction). IsImageOf l (image_of o x)) (sym c.compiled.listed) (image_shown l (variable_lines names c.first
         (variables_of_function p.source.function.blocks)) p.substitutions o c.more
-        (formed names o are.compiled.lists are.compiled.section p f is c) (unfixed names o are.compiled.lists are.compiled.section p f is c) at);
+        (formed names o are.compiled.lists are.compiled.section p f is c) at);
   }
 
   unwinds : (n : ℕ) (p : PassedFunction) (f : ListedFunction) → slice_get functions n ≡ Some p → slice_get o.functions n ≡ Some f →

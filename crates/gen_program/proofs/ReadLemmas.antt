@@ -31,7 +31,7 @@ use Rattle.read_proof.specs.read_program.declared.program.Program.{Program}
 use Rattle.read_proof.specs.read_program.Limited.{IsLimited, KindIsLimited, LocIsLimited}
 use Rattle.mir_printer.specs.Printable.{Declared, IsNumber, HasNumbers, IsAsDeclared, IsPrintable, IsPrintableKind, IsPrintableLoc}
 use Rattle.base_ids.specs.Limits.{MAX_NUMBER}
-use Rattle.read_proof.specs.Read.{declared_in, EntryIsLimited, IsReadFunction, IsReadProgram}
+use Rattle.read_proof.specs.Read.{declared_in, EntryIsLimited, IsObjectNumber, IsReadFunction, IsReadProgram}
 use Rattle.gen_program.specs.Program.{generated_program}
 use Rattle.gen_program.proofs.Made.{IsMade, adds, copies, gives, sets, stores, loads, phis, marks, branches, jumps, returns, IsMadeItem, IsMadeBlock}
 use Rattle.gen_program.proofs.Made.{few_items}
@@ -203,7 +203,6 @@ generated_is_read meta number count some few =
     let items = few_items count count (record { state = number; given = 0 }) (omega arith) in
     record {
       sound = sound;
-      unfixed = All-nil (λ (o : Object). o.fixed_offset ≡ None);
       read = record {
         apart = sound.blocks_apart;
         items = All-weaker (IsMadeBlock TOP)
@@ -217,7 +216,7 @@ generated_is_read meta number count some few =
       printable = of_made (IsPrintable (declared_in meta f)) (λ i m. printable_item meta number count i m) number count few;
       few_items = omega (arith, items, few);
       ids = All-weaker (IsMadeBlock TOP) (λ (b : Block). b.id ≤ MAX_NUMBER) block_low f.blocks made;
-      objects = All-nil (λ (o : Object). o.id ≤ MAX_NUMBER);
+      objects = All-nil (λ (o : Object). IsObjectNumber o.id o.fixed_offset);
       slots = all_slots (λ n. n ≤ MAX_NUMBER) (lit≤ tt) (lit≤ tt) (lit≤ tt) (lit≤ tt);
     }
 

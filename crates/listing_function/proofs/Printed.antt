@@ -1,8 +1,8 @@
 -- A listing is printable: item by item each line tells its numbers, whose addresses are those of the entries of the layout.
 use Rattle.std.proofs.Common.{◌≡◌, ℕ, suc, ◌+◌, ◌*◌, ◌<◌, ◌^◌, ℤ, pos, negsuc, Bool, true, false, List, [], ◌∷◌, ◌++◌, length}
-use Rattle.std.proofs.Common.{Option, Some}
+use Rattle.std.proofs.Common.{Option, Some, None, ◌≤◌}
 use Rattle.std.proofs.Common.{refl, ap, sym, subst, arith}
-use Rattle.std.specs.Prelude.{All, map, IfSome, ◌+ℤ◌, sum_by}
+use Rattle.std.specs.Prelude.{All, map, IfSome, ◌+ℤ◌, sum_by, unsigned_abs}
 use Rattle.std.specs.List.{flat_map, list_all}
 use Rattle.std.proofs.lemmas.Bool.{and_parts}
 use Rattle.std.proofs.lemmas.Bool.Decides.{nat_tests}
@@ -34,7 +34,7 @@ use Rattle.mir_func.specs.declared.position.Origin.{Origin}
 use Rattle.mir_func.specs.declared.position.Origin.TheVariants.{Kept, Before}
 use Rattle.mir_func.specs.declared.position.Pos.{Pos}
 use Rattle.mir_func.specs.Objects.{offset_of}
-use Rattle.mir_func.specs.Sound.{AllItems, IsSoundObject, HasForm}
+use Rattle.mir_func.specs.Sound.{AllItems, IsFixedOffset, IsSoundObject, HasForm}
 use Rattle.mir_func.specs.SoundFrame.{own_size, IsFramed}
 use Rattle.emit_code.specs.LongBranch.{jump_to}
 use Rattle.emit_code.specs.Listed.{by_pointer, listed}
@@ -46,12 +46,12 @@ use Rattle.emit_code.proofs.Stand.{stands, words_fill}
 use Rattle.mir_printer.specs.Printable.{IsNumber, HasNumbers, IsPrintableInstruction}
 use Rattle.mir_printer.specs.Printable.{IsAsDeclared}
 use Rattle.listing_text.specs.Shown.{IsPrintableOrigin, IsPrintableImplicit, IsPrintableLine, IsPrintableBlock}
-use Rattle.listing_text.specs.Shown.{IsPrintableObject}
+use Rattle.listing_text.specs.Shown.{IsPrintableObjectPlace, IsPrintableObject}
 use Rattle.listing_meaning.specs.Listing.{implicits, branch_skip, line_at, form_lines, kind_lines, site_lines, blocks_listed, prologue_listed}
-use Rattle.listing_meaning.specs.Listing.{body_listed, object_listed}
+use Rattle.listing_meaning.specs.Listing.{body_listed, place_listed, object_listed}
 use Rattle.listing_meaning.proofs.Forms.{FormView, one, call, long, viewed}
 use Rattle.listing_function.specs.steps.Entries.{IsLow, IsPlaced}
-use Rattle.listing_function.specs.Printable.{IsPrintableFramedKind, IsPrintableFramedItem, IsPrintableFramedBlock}
+use Rattle.listing_function.specs.Printable.{IsPrintableNumber, IsPrintableFramedKind, IsPrintableFramedItem, IsPrintableFramedBlock}
 use Rattle.listing_function.specs.Laws.{ListingsArePrintable}
 use Rattle.listing_function.proofs.Declared.{operands_declared}
 use Rattle.listing_function.proofs.Low.{entries_low, offsets_low}
@@ -319,15 +319,34 @@ module _ (inlined : ℕ → Option ℕ) (l : Layout) (framed : IsFramed l.framed
       blocks_printable 1 blocks (All-tail (IsPrintableFramedBlock inlined) p blocks fit) (All-tail (λ x. All (λ i. IsPlaced
       l.framed i.kind) x.items) p blocks placed) (halves 0 p blocks low).1
 
-objects_printable : (objects : List StackObject) → All (λ o. IsNumber o.id) objects → All IsSoundObject objects → All (λ o. o.offset < 2 ^ 32) objects →
-    All IsPrintableObject (map object_listed objects)
+-- an offset from the stack pointer at entry has 64 bits
+near_signed : (d : ℤ) → unsigned_abs d ≤ 1073741823 → IsSigned d
+near_signed (pos n) small = omega (arith, small)
+near_signed (negsuc n) small = omega (arith, small)
+
+number_printable : (id : ℕ) (fixed : Option ℤ) → IsPrintableNumber id fixed → IsNumber id
+number_printable id None is = is
+number_printable id (Some d) is = is.0
+
+place_printable : (id offset : ℕ) (fixed : Option ℤ) (local : Option ℕ) → IsPrintableNumber id fixed → offset < 2 ^ 32 → IsFixedOffset fixed local →
+    IsPrintableObjectPlace id (place_listed offset fixed)
+place_printable id offset None local is low near = low
+place_printable id offset (Some d) local is low near = (near_signed d near.0, is.1)
+
+objects_printable : (objects : List StackObject) → All (λ o. IsPrintableNumber o.id o.fixed_offset) objects → All IsSoundObject objects →
+    All (λ o. o.offset < 2 ^ 32) objects → All IsPrintableObject (map object_listed objects)
 objects_printable [] ids sound low = All-nil IsPrintableObject
 objects_printable (o ∷ objects) ids sound low =
     let here = All-head IsSoundObject o objects sound in
+    let number = All-head (λ (x : StackObject). IsPrintableNumber x.id x.fixed_offset) o objects ids in
     All-cons IsPrintableObject (object_listed o) (map object_listed objects)
-    (record { id = All-head (λ x. IsNumber x.id) o objects ids; size = omega (arith, here.size); offset = All-head (λ x. x.offset < 2 ^ 32) o objects low })
-    (objects_printable objects (All-tail (λ x. IsNumber x.id) o objects ids) (All-tail IsSoundObject o objects sound) (All-tail (λ x. x.offset < 2 ^ 32) o
-    objects low))
+    (record {
+      id = number_printable o.id o.fixed_offset number;
+      size = omega (arith, here.size);
+      place = place_printable o.id o.offset o.fixed_offset o.local_offset number (All-head (λ (x : StackObject). x.offset < 2 ^ 32) o objects low) here.fixed;
+    })
+    (objects_printable objects (All-tail (λ (x : StackObject). IsPrintableNumber x.id x.fixed_offset) o objects ids) (All-tail IsSoundObject o objects sound)
+    (All-tail (λ (x : StackObject). x.offset < 2 ^ 32) o objects low))
 
 pub printable : ListingsArePrintable
 printable inlined l variables substitutions framed worded fit high vs es =

@@ -1,5 +1,6 @@
 -- Conditions under which the listing of a function with its frame is printable.
-use Rattle.std.specs.Prelude.{ℕ, Option, IfSome, All}
+use Rattle.std.specs.Prelude.{ℕ, ℤ, ◌≤◌, Option, Some, None, IfSome, All}
+use Rattle.base_ids.specs.Limits.{FIXED}
 use Rattle.mir_func.specs.declared.block.Block.{Block}
 use Rattle.mir_func.specs.declared.item.Item.{Item}
 use Rattle.mir_func.specs.declared.item.ItemKind.{ItemKind}
@@ -28,7 +29,12 @@ pub record IsPrintableFramedBlock (inlined : ℕ → Option ℕ) (b : Block) : T
   pub id : IsNumber b.id
   pub items : All (IsPrintableFramedItem inlined) b.items
 
+-- an object has a number of 32 bits, a fixed one that of a fixed one
+abbrev pub IsPrintableNumber : (id : ℕ) → (fixed : Option ℤ) → Type 0
+IsPrintableNumber id None = IsNumber id
+IsPrintableNumber id (Some d) = IsNumber id × (FIXED ≤ id)
+
 -- Code has the form of its opcode, and numbers have 32 bits. `inlined` maps the node of a DILocation to the node of its `inlinedAt`.
 pub record IsPrintableFramed (inlined : ℕ → Option ℕ) (f : FramedFunction) : Type 0 where
-  pub objects : All (λ o. IsNumber o.id) f.objects
+  pub objects : All (λ o. IsPrintableNumber o.id o.fixed_offset) f.objects
   pub blocks : All (IsPrintableFramedBlock inlined) f.blocks

@@ -5,7 +5,7 @@ ghost use Rattle.std.specs.List.{flat_map};
 ghost use Rattle.emit_code.specs.Rule.{Layout, entries_at, sites_from};
 ghost use Rattle.mir_func.specs.Sound.{AllItems};
 ghost use Rattle.listing_meaning.specs.Listing.{listing_of, prologue_listed, body_listed, blocks_listed};
-ghost use Rattle.listing_meaning.specs.Listing.{object_listed};
+ghost use Rattle.listing_meaning.specs.Listing.{place_listed, object_listed};
 ghost use Rattle.listing_function.specs.Laid.{IsLaid};
 ghost use Rattle.listing_function.specs.steps.Entries.{IsLow, IsSource, IsPlaced};
 
@@ -14,7 +14,7 @@ use crate::variables::ListedVariables;
 use base_list::List;
 use emit_code::code::{Code, EncodedInstruction as Laid};
 use emit_code::objects::ObjectOffsets;
-use listing_text::output::{Lines, ListedBlock, ListedFunction, ListedObject};
+use listing_text::output::{Lines, ListedBlock, ListedFunction, ListedObject, ObjectPlace};
 use mir_func::block::Block;
 use mir_func::debug_substitution::DebugSubstitution;
 use mir_func::framed::Framed;
@@ -167,6 +167,16 @@ fn object(o: &Object) -> ListedObject
     ListedObject {
         id: o.id,
         size: o.size,
-        offset: o.offset as u32,
+        place: place(o.offset as u32, o.fixed_offset),
+    }
+}
+
+/// The place of an object at this offset.
+fn place(offset: u32, fixed: Option<i32>) -> ObjectPlace
+    ensures { result ≡ place_listed offset fixed }
+{
+    match fixed {
+        Some(distance) => ObjectPlace::FromEntry(distance),
+        None => ObjectPlace::InArea(offset),
     }
 }

@@ -19,7 +19,7 @@ use Rattle.mir_func.specs.declared.framed.SavedRegister.{SavedRegister}
 use Rattle.mir_func.specs.declared.item.Item.{Item}
 use Rattle.mir_func.specs.declared.item.ItemKind.{ItemKind}
 use Rattle.mir_func.specs.declared.item.ItemKind.TheVariants.{Code, Mark, Phi}
-use Rattle.mir_func.specs.Objects.{HasNoFixed}
+use Rattle.mir_func.specs.Objects.{area_of}
 use Rattle.mir_func.specs.Sound.{IsNotPointer, LeavesPointer, AllItems, SlotsIn, ObjectsIn, contents_of}
 use Rattle.mir_func.specs.SoundFrame.{adds_to_pointer, saves, restores, prologue_code, epilogue_code, AreCode, IsBody, GivesBack, goes_on, returns, HasFrame}
 use Rattle.mir_func.specs.SoundFrame.{NumberedAlike, IsFramed, slot_offsets}
@@ -28,12 +28,13 @@ use Rattle.emit_code.specs.steps.Emitted.{IsFormed}
 use Rattle.listing_text.specs.declared.output.Line.{Line}
 use Rattle.listing_text.specs.declared.output.ListedBlock.{ListedBlock}
 use Rattle.listing_text.specs.declared.output.ListedVariable.{ListedVariable}
-use Rattle.listing_meaning.specs.Frame.{ShownFrame, lowered_by, size_shown, frame_shown}
+use Rattle.listing_meaning.specs.Frame.{ShownFrame, object_shown, lowered_by, size_shown, frame_shown}
 use Rattle.listing_meaning.specs.Program.{blocks_of, block_shown, first_id}
-use Rattle.listing_meaning.specs.Listing.{form_lines, kind_lines, site_lines, items_listed, prologue_listed, body_listed, blocks_listed, listing_of}
+use Rattle.listing_meaning.specs.Listing.{form_lines, kind_lines, site_lines, items_listed, prologue_listed, body_listed, blocks_listed, object_listed}
+use Rattle.listing_meaning.specs.Listing.{listing_of}
 use Rattle.listing_meaning.specs.Settled.{frame_of, settled}
 use Rattle.listing_meaning.specs.Laws.{ListingsShowTheFunction}
-use Rattle.listing_meaning.proofs.Images.{areas_alike}
+use Rattle.listing_meaning.proofs.Images.{areas_alike, objects_alike}
 use Rattle.listing_meaning.proofs.Operands.{IsSteady}
 use Rattle.listing_meaning.proofs.Shown.{SteadyKind, Good, blocks_back}
 
@@ -153,10 +154,13 @@ module _ (l : Layout) where
 
   -- the frame that is shown
   pub frame_same : (variables : List ListedVariable) (substitutions : List DebugSubstitution) → IsFramed l.framed →
-      HasNoFixed l.framed.objects → frame_shown (listing_of l variables substitutions) ≡ frame_of l.framed
-  frame_same variables substitutions framed unfixed =
+      frame_shown (listing_of l variables substitutions) ≡ frame_of l.framed
+  frame_same variables substitutions framed =
       let size = size_by l.framed.size l.framed.saved l.framed.blocks framed.small framed.frame in
-      λ k. record { below = size k - areas_alike l.framed.objects unfixed k; objects = (frame_of l.framed).objects }
+      let area = areas_alike l.framed.objects in
+      let objects = ap (λ (n : ℕ). map (object_shown n) (map object_listed l.framed.objects)) area
+      ∙ objects_alike (area_of l.framed.objects) l.framed.objects framed.objects_laid.fixed in
+      λ k. record { below = size k - area k; objects = objects k }
 
   -- ---- all of it
 
@@ -199,9 +203,9 @@ module _ (l : Layout) where
   blocks_whole variables substitutions framed = whole_by l.framed.blocks framed.number
 
 pub function_shown : ListingsShowTheFunction
-function_shown l variables substitutions framed formed unfixed =
+function_shown l variables substitutions framed formed =
     let listing = listing_of l variables substitutions in
-    let frame = frame_same l variables substitutions framed unfixed in
+    let frame = frame_same l variables substitutions framed in
     let blocks = blocks_whole l variables substitutions framed in
     let good = goods l framed l.framed.blocks formed (frame_steady l.framed.size l.framed.saved l.framed.blocks framed.frame) framed.slots framed.objects in
     ap (λ (bs : List ListedBlock). map contents_of (map (block_shown (frame_shown listing)) bs)) blocks ∙

@@ -1,5 +1,5 @@
 -- The image of a listing: line by line it is that of the layout.
-use Rattle.std.proofs.Common.{◌≡◌, ℕ, suc, ◌+◌, max, pos, true, false, List, [], ◌∷◌, ◌++◌, Option, Some, None, refl, ap, sym, ◌∙◌, subst}
+use Rattle.std.proofs.Common.{◌≡◌, ℕ, suc, ◌+◌, max, ℤ, pos, negsuc, arith, true, false, List, [], ◌∷◌, ◌++◌, Option, Some, None, refl, ap, sym, ◌∙◌, subst}
 use Rattle.std.specs.Prelude.{map, All}
 use Rattle.std.specs.List.{flat_map, list_all}
 use Rattle.std.proofs.lemmas.Bool.{and_parts}
@@ -19,8 +19,7 @@ use Rattle.mir_func.specs.declared.item.Item.{Item}
 use Rattle.mir_func.specs.declared.item.ItemKind.{ItemKind}
 use Rattle.mir_func.specs.declared.item.ItemKind.TheVariants.{Code, Mark, Phi}
 use Rattle.mir_func.specs.declared.object.Object.{Object}
-use Rattle.mir_func.specs.Objects.{area_of, end_from, own_end, up_to, HasNoFixed}
-use Rattle.mir_func.proofs.Ends.{no_fixed_area}
+use Rattle.mir_func.specs.Objects.{area_of, end_from, own_end, up_to, depth_of, depth_from, IsFixedAt}
 use Rattle.mir_func.specs.Sound.{AllItems, HasForm}
 use Rattle.machine_steps_proof.specs.sem_machine.Image.{CodeLine}
 use Rattle.emit_code.specs.LongBranch.{jump_to}
@@ -29,10 +28,11 @@ use Rattle.emit_code.specs.Rule.{Layout, Site, Form, LongBranch, form_of, addres
 use Rattle.emit_code.specs.steps.Emitted.{IsFormed}
 use Rattle.machine_steps_proof.specs.Images.{code_line}
 use Rattle.listing_text.specs.Output.{operand_of}
-use Rattle.listing_meaning.specs.Frame.{area_shown, end_of}
+use Rattle.listing_meaning.specs.Frame.{end_at, end_of, depth_at, deepest, area_shown, offset_at, object_shown}
 use Rattle.listing_meaning.specs.Program.{code_lines}
 use Rattle.listing_meaning.specs.Listing.{implicits, branch_skip, line_at, form_lines, kind_lines, site_lines, items_listed, blocks_listed, object_listed}
-use Rattle.listing_meaning.specs.Listing.{prologue_listed, body_listed}
+use Rattle.listing_meaning.specs.Listing.{place_listed, prologue_listed, body_listed}
+use Rattle.listing_meaning.specs.Settled.{object_placed}
 use Rattle.listing_meaning.specs.Laws.{ListingsShowTheImage}
 use Rattle.listing_meaning.proofs.Forms.{FormView, one, call, long, viewed}
 
@@ -111,20 +111,45 @@ module _ (l : Layout) where
   whole_alike [] all = refl
   whole_alike (p ∷ blocks) all = blocks_alike 0 (p ∷ blocks) all
 
-ends_alike : (n : ℕ) (objects : List Object) → HasNoFixed objects → end_of n (map object_listed objects) ≡ end_from n objects
-ends_alike n [] unfixed = refl
-ends_alike n (o ∷ objects) unfixed =
-    let here : o.fixed_offset ≡ None = All-head (λ (x : Object). x.fixed_offset ≡ None) o objects unfixed in
-    ends_alike (max n (o.offset + o.size)) objects (All-tail (λ (x : Object). x.fixed_offset ≡ None) o objects unfixed)
-    ∙ ap (λ (m : ℕ). end_from m objects) (sym (ap (own_end n o) here))
+end_alike : (n : ℕ) (o : Object) (fixed : Option ℤ) → end_at n o.size (place_listed o.offset fixed) ≡ own_end n o fixed
+end_alike n o None = refl
+end_alike n o (Some d) = refl
 
-pub areas_alike : (objects : List Object) → HasNoFixed objects → area_shown (map object_listed objects) ≡ area_of objects
-areas_alike objects unfixed = ap (up_to 16) (ends_alike 0 objects unfixed) ∙ sym (no_fixed_area objects unfixed)
+ends_alike : (n : ℕ) (objects : List Object) → end_of n (map object_listed objects) ≡ end_from n objects
+ends_alike n [] = refl
+ends_alike n (o ∷ objects) =
+    ap (λ (m : ℕ). end_of m (map object_listed objects)) (end_alike n o o.fixed_offset) ∙ ends_alike (own_end n o o.fixed_offset) objects
+
+depth_alike : (offset : ℕ) (fixed : Option ℤ) → depth_at (place_listed offset fixed) ≡ depth_of fixed
+depth_alike offset None = refl
+depth_alike offset (Some d) = refl
+
+depths_alike : (n : ℕ) (objects : List Object) → deepest n (map object_listed objects) ≡ depth_from n objects
+depths_alike n [] = refl
+depths_alike n (o ∷ objects) =
+    ap (λ (m : ℕ). deepest (max n m) (map object_listed objects)) (depth_alike o.offset o.fixed_offset) ∙ depths_alike (max n (depth_of o.fixed_offset)) objects
+
+pub areas_alike : (objects : List Object) → area_shown (map object_listed objects) ≡ area_of objects
+areas_alike objects = λ k. up_to 16 (ends_alike 0 objects k) + up_to 16 (depths_alike 0 objects k)
+
+offset_alike : (area offset : ℕ) (fixed : Option ℤ) → IsFixedAt area offset fixed → offset_at area (place_listed offset fixed) ≡ offset
+offset_alike area offset None is = refl
+offset_alike area offset (Some (pos n)) is = sym is
+offset_alike area offset (Some (negsuc n)) is = omega (arith, is)
+
+-- objects that are where they must be are shown with their offsets
+pub objects_alike : (area : ℕ) (objects : List Object) → All (λ o. IsFixedAt area o.offset o.fixed_offset) objects →
+    map (object_shown area) (map object_listed objects) ≡ map object_placed objects
+objects_alike area [] is = refl
+objects_alike area (o ∷ objects) is =
+    let here = offset_alike area o.offset o.fixed_offset (All-head (λ (x : Object). IsFixedAt area x.offset x.fixed_offset) o objects is) in
+    let rest = objects_alike area objects (All-tail (λ (x : Object). IsFixedAt area x.offset x.fixed_offset) o objects is) in
+    λ k. record { id = o.id; size = o.size; offset = here k } ∷ rest k
 
 pub image_shown : ListingsShowTheImage
-image_shown l variables substitutions o more formed unfixed text = record {
+image_shown l variables substitutions o more formed text = record {
   low = refl;
-  area = areas_alike l.framed.objects unfixed;
+  area = areas_alike l.framed.objects;
   more = more;
   text = text;
   lines = whole_alike l l.framed.blocks formed;

@@ -35,8 +35,8 @@ use Rattle.mir_func.specs.Objects.{object_of, offset_of, offset_or_zero}
 use Rattle.mir_func.specs.Sound.{IsSoundObject, HasBytes, SlotIn, ObjectIn}
 use Rattle.mir_func.specs.SoundFrame.{own_size, slot_offsets, IsFramed, IsSlotOffset}
 use Rattle.emit_code.specs.Listed.{by_pointer}
-use Rattle.listing_text.specs.declared.output.ListedObject.{ListedObject}
-use Rattle.listing_meaning.specs.Frame.{object_at, in_object, by_pointer as by_pointer_at, by_object, accessed, raised_operands, raised_load, raised_store}
+use Rattle.listing_meaning.specs.Frame.{ShownObject, object_at, in_object, by_pointer as by_pointer_at, by_object, accessed, raised_operands, raised_load}
+use Rattle.listing_meaning.specs.Frame.{raised_store}
 use Rattle.listing_meaning.specs.Frame.{raised_sum, raised_number}
 use Rattle.listing_meaning.specs.Settled.{frame_of, settled_operands, settled_sum, IsAlone, LeadsInside}
 use Rattle.listing_meaning.proofs.Raising.{found_at, id_found}
@@ -111,7 +111,7 @@ module _ (f : FramedFunction) (framed : IsFramed f) where
       let left : o.offset + m - o.offset ≡ m = omega arith in
       let rest = by_pointer_at (own_size f + offset_of f.objects n + m) in
       ap (λ (x : ℕ). in_object (object_at (frame_of f).objects x) x rest) over ∙
-      (ap (λ (z : Option ListedObject). in_object z (o.offset + m) rest) stands ∙
+      (ap (λ (z : Option ShownObject). in_object z (o.offset + m) rest) stands ∙
       (ap (λ (x : ℕ). OfObject o.id ∷ Imm (pos x) ∷ []) left ∙ ap (λ (x : ℕ). OfObject x ∷ Imm (pos m) ∷ []) (id_found f.objects n o found)))
 
   -- ---- loads

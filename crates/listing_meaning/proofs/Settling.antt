@@ -49,5 +49,5 @@ module _ (f : FramedFunction) (framed : IsFramed f) where
       λ k. (b.id, items k) ∷ rest k
 
 pub items_shown_all : ListingsShowTheItems
-items_shown_all l variables substitutions framed formed unfixed inside =
-    function_shown l variables substitutions framed formed unfixed ∙ blocks_same l.framed framed l.framed.blocks formed framed.objects inside
+items_shown_all l variables substitutions framed formed inside =
+    function_shown l variables substitutions framed formed ∙ blocks_same l.framed framed l.framed.blocks formed framed.objects inside

@@ -1,6 +1,7 @@
 -- The frame that a listing shows. Listed instructions access the frame by x2 and an offset. These definitions map such accesses back to frame slots
 -- and stack objects.
-use Rattle.std.specs.Prelude.{ℕ, zero, suc, ◌+◌, ◌-◌, ◌^◌, max, Bool, true, false, cond, ◌&&◌, nat_eq, nat_le, nat_lt, pos, List, [], ◌∷◌, ◌++◌, Option, Some}
+use Rattle.std.specs.Prelude.{ℕ, zero, suc, ◌+◌, ◌-◌, ◌^◌, max, Bool, true, false, cond, ◌&&◌, nat_eq, nat_le, nat_lt, pos, negsuc, map, List, [], ◌∷◌, ◌++◌}
+use Rattle.std.specs.Prelude.{Option, Some}
 use Rattle.std.specs.Prelude.{None}
 use Rattle.rv64_instr.specs.declared.op.Op.{Op}
 use Rattle.rv64_instr.specs.declared.op.Op.TheVariants.{Registers, Immediate, Lui, Branch, Load, Store, Copy}
@@ -18,22 +19,56 @@ use Rattle.rv64_instr.specs.Arithmetic.{load_width, store_width}
 use Rattle.rv64_instr.specs.Row.{Row, Sets, row_of}
 use Rattle.mir_func.specs.declared.item.ItemKind.{ItemKind}
 use Rattle.mir_func.specs.declared.item.ItemKind.TheVariants.{Code, Mark, Phi}
-use Rattle.mir_func.specs.Objects.{up_to}
+use Rattle.mir_func.specs.Objects.{up_to, depth_of}
 use Rattle.listing_text.specs.declared.output.Line.{Line}
 use Rattle.listing_text.specs.declared.output.Line.TheVariants.{Item, Skip}
+use Rattle.listing_text.specs.declared.output.ObjectPlace.{ObjectPlace}
+use Rattle.listing_text.specs.declared.output.ObjectPlace.TheVariants.{InArea, FromEntry}
 use Rattle.listing_text.specs.declared.output.ListedObject.{ListedObject}
 use Rattle.listing_text.specs.declared.output.ListedFunction.{ListedFunction}
 
 -- ---- its size
 
--- the greatest end offset of listed stack objects, or n
+-- the end offset of an object of this size and place if it isn't fixed and that is greater than n
+abbrev pub end_at : (n size : ℕ) → ObjectPlace → ℕ
+end_at n size (InArea offset) = max n (offset + size)
+end_at n size (FromEntry d) = n
+
+-- the greatest end offset of listed stack objects that aren't fixed, or n
 abbrev pub end_of : ℕ → List ListedObject → ℕ
 end_of n [] = n
-end_of n (o ∷ os) = end_of (max n (o.offset + o.size)) os
+end_of n (o ∷ os) = end_of (end_at n o.size o.place) os
 
--- the size of the area of stack objects at the top of the frame: up to their greatest end, rounded up to a multiple of 16
+-- how far below the stack pointer at entry a fixed object begins, or 0
+abbrev pub depth_at : ObjectPlace → ℕ
+depth_at (InArea offset) = 0
+depth_at (FromEntry d) = depth_of (Some d)
+
+-- the greatest depth of listed stack objects, or n
+abbrev pub deepest : ℕ → List ListedObject → ℕ
+deepest n [] = n
+deepest n (o ∷ os) = deepest (max n (depth_at o.place)) os
+
+-- the size of the area of stack objects at the top of the frame: up to the greatest end of those that aren't fixed, and above them from the deepest fixed one
+-- on, each rounded up to a multiple of 16
 abbrev pub area_shown : List ListedObject → ℕ
-area_shown objects = up_to 16 (end_of 0 objects)
+area_shown objects = up_to 16 (end_of 0 objects) + up_to 16 (deepest 0 objects)
+
+-- a stack object that a listing shows: its number, its size, and its offset from the lowest byte of the area
+pub record ShownObject : Type 0 where
+  pub id : ℕ
+  pub size : ℕ
+  pub offset : ℕ
+
+-- the offset of a place, in an area of this size
+abbrev pub offset_at : (area : ℕ) → ObjectPlace → ℕ
+offset_at area (InArea offset) = offset
+offset_at area (FromEntry (pos n)) = area + n
+offset_at area (FromEntry (negsuc n)) = area - suc n
+
+-- a listed object, in an area of this size
+abbrev pub object_shown : (area : ℕ) → ListedObject → ShownObject
+object_shown area o = record { id = o.id; size = o.size; offset = offset_at area o.place }
 
 -- by how many bytes an instruction lowers x2: N for `$x2 = ADDI $x2, -N`
 abbrev pub lowered_by : Row → ℕ
@@ -59,11 +94,11 @@ size_shown (l ∷ ls) = lowered_by_line l
 -- `below`: the size of the area of slots and saved registers, which begins at x2 and ends at the stack objects. `objects`: the stack objects.
 pub record ShownFrame : Type 0 where
   pub below : ℕ
-  pub objects : List ListedObject
+  pub objects : List ShownObject
 
 -- the frame of a listed function: its size without the area of stack objects, and its objects
 abbrev pub frame_shown : ListedFunction → ShownFrame
-frame_shown f = record { below = size_shown f.prologue - area_shown f.objects; objects = f.objects }
+frame_shown f = record { below = size_shown f.prologue - area_shown f.objects; objects = map (object_shown (area_shown f.objects)) f.objects }
 
 -- ---- accesses to the frame
 
@@ -72,24 +107,24 @@ abbrev pub by_pointer : ℕ → List Operand
 by_pointer n = Use 2 ∷ Imm (pos n) ∷ []
 
 -- the last object that passes a test, or `found` if there is none
-abbrev pub last_of : (ListedObject → Bool) → (found : Option ListedObject) → List ListedObject → Option ListedObject
+abbrev pub last_of : (ShownObject → Bool) → (found : Option ShownObject) → List ShownObject → Option ShownObject
 last_of test found [] = found
 last_of test found (o ∷ os) = last_of test (cond (test o) (Some o) found) os
 
 -- the object begins at an offset or below
-abbrev pub begins_by : (offset : ℕ) → ListedObject → Bool
+abbrev pub begins_by : (offset : ℕ) → ShownObject → Bool
 begins_by n o = nat_le o.offset n
 
 -- the object has the byte at an offset
-abbrev pub has_byte : (offset : ℕ) → ListedObject → Bool
+abbrev pub has_byte : (offset : ℕ) → ShownObject → Bool
 has_byte n o = nat_le o.offset n && nat_lt n (o.offset + o.size)
 
 -- The last object that has the byte at an offset. If none has it, as at the end of an object, the last one that begins below it, or None.
-abbrev pub object_at : List ListedObject → (offset : ℕ) → Option ListedObject
+abbrev pub object_at : List ShownObject → (offset : ℕ) → Option ShownObject
 object_at objects n = last_of (has_byte n) (last_of (begins_by n) None objects) objects
 
 -- the operands of an offset into an object, or `otherwise` without an object
-abbrev pub in_object : Option ListedObject → (offset : ℕ) → (otherwise : List Operand) → List Operand
+abbrev pub in_object : Option ShownObject → (offset : ℕ) → (otherwise : List Operand) → List Operand
 in_object None n otherwise = otherwise
 in_object (Some o) n otherwise = Object o.id ∷ Imm (pos (n - o.offset)) ∷ []
 

@@ -2,7 +2,6 @@
 use Rattle.std.specs.Prelude.{◌≡◌, ◌↔◌, ℕ, ◌+◌, ◌<◌, ◌≤◌, ◌++◌, List, drop, map, Contains}
 use Rattle.std.specs.List.{flat_map}
 use Rattle.std.specs.Int.{w32, to_le_bytes}
-use Rattle.mir_func.specs.Objects.{HasNoFixed}
 use Rattle.mir_func.specs.declared.debug_substitution.DebugSubstitution.{DebugSubstitution}
 use Rattle.mir_func.specs.declared.position.Pos.{Pos}
 use Rattle.mir_func.specs.Function.{FramedFunction}
@@ -24,24 +23,20 @@ abbrev pub AreFormed : FramedFunction → Type 0
 AreFormed f = AllItems IsFormed f.blocks
 
 -- In an output whose `.text` has the layout's words from the layout's first address on, the image of the layout's listing is an image of the layout.
--- Nothing in a listing tells a fixed object from the others, so there is none.
 abbrev pub ListingsShowTheImage : Type 0
 ListingsShowTheImage = (l : Layout) (variables : List ListedVariable) (substitutions : List DebugSubstitution) (o : Output) (more : List ℕ) →
-    AreFormed l.framed → HasNoFixed l.framed.objects →
-    drop l.base o.text ≡ flat_map (to_le_bytes w32) (words_of l) ++ more → IsImageOf l (image_of o (listing_of l variables substitutions))
+    AreFormed l.framed → drop l.base o.text ≡ flat_map (to_le_bytes w32) (words_of l) ++ more → IsImageOf l (image_of o (listing_of l variables substitutions))
 
 -- The listing of a layout shows exactly the function with its frame: the numbers and items of its blocks, in order. An address of a stack object is
 -- shown relative to the last object that has its byte (see `object_at`).
 abbrev pub ListingsShowTheFunction : Type 0
 ListingsShowTheFunction = (l : Layout) (variables : List ListedVariable) (substitutions : List DebugSubstitution) → IsFramed l.framed → AreFormed l.framed →
-    HasNoFixed l.framed.objects →
     map contents_of (blocks_shown (listing_of l variables substitutions)) ≡ map contents_of (map (settled l.framed) l.framed.blocks)
 
 -- If each address, load and store of a stack object begins at one of the object's bytes, which no other object has, the listing shows the function's own
 -- items.
 abbrev pub ListingsShowTheItems : Type 0
 ListingsShowTheItems = (l : Layout) (variables : List ListedVariable) (substitutions : List DebugSubstitution) → IsFramed l.framed → AreFormed l.framed →
-    HasNoFixed l.framed.objects →
     AllItems (λ i. StaysInside l.framed.objects i.kind) l.framed.blocks →
     map contents_of (blocks_shown (listing_of l variables substitutions)) ≡ map contents_of l.framed.blocks
 

@@ -1,5 +1,5 @@
 -- The listing of a layout: the lines of a function with its frame.
-use Rattle.std.specs.Prelude.{ℕ, suc, ◌+◌, ◌*◌, List, [], ◌∷◌, ◌++◌, length, map, Option, Some, None}
+use Rattle.std.specs.Prelude.{ℕ, ℤ, suc, ◌+◌, ◌*◌, List, [], ◌∷◌, ◌++◌, length, map, Option, Some, None}
 use Rattle.std.specs.List.{flat_map}
 use Rattle.rv64_instr.specs.declared.op.Op.{Op}
 use Rattle.rv64_instr.specs.declared.op.Op.TheVariants.{Branch}
@@ -22,6 +22,8 @@ use Rattle.listing_text.specs.declared.output.Implicit.TheVariants.{Def as SetsI
 use Rattle.listing_text.specs.declared.output.Line.{Line}
 use Rattle.listing_text.specs.declared.output.Line.TheVariants.{Item as OfItem, Skip}
 use Rattle.listing_text.specs.declared.output.ListedVariable.{ListedVariable}
+use Rattle.listing_text.specs.declared.output.ObjectPlace.{ObjectPlace}
+use Rattle.listing_text.specs.declared.output.ObjectPlace.TheVariants.{InArea, FromEntry}
 use Rattle.listing_text.specs.declared.output.ListedObject.{ListedObject}
 use Rattle.listing_text.specs.declared.output.ListedBlock.{ListedBlock}
 use Rattle.listing_text.specs.declared.output.ListedFunction.{ListedFunction}
@@ -86,9 +88,14 @@ abbrev pub body_listed : Layout → List Block → List ListedBlock
 body_listed l [] = []
 body_listed l (p ∷ blocks) = blocks_listed l 1 blocks
 
+-- the place of an object as a listing has it, by its offset from the lowest byte of the area or, if it is fixed, from the stack pointer at entry
+abbrev pub place_listed : (offset : ℕ) → (fixed : Option ℤ) → ObjectPlace
+place_listed offset None = InArea offset
+place_listed offset (Some d) = FromEntry d
+
 -- a stack object as a listing has it
 abbrev pub object_listed : Object → ListedObject
-object_listed o = record { id = o.id; size = o.size; offset = o.offset }
+object_listed o = record { id = o.id; size = o.size; place = place_listed o.offset o.fixed_offset }
 
 -- the listing of a layout, with variables and substitutions
 abbrev pub listing_of : Layout → List ListedVariable → List DebugSubstitution → ListedFunction

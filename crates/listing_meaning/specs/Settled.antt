@@ -22,12 +22,15 @@ use Rattle.mir_func.specs.Function.{FramedFunction}
 use Rattle.mir_func.specs.Sound.{HasBytes}
 use Rattle.mir_func.specs.Objects.{object_of, offset_of}
 use Rattle.mir_func.specs.SoundFrame.{own_size}
-use Rattle.listing_meaning.specs.Frame.{ShownFrame, has_byte, by_object}
-use Rattle.listing_meaning.specs.Listing.{object_listed}
+use Rattle.listing_meaning.specs.Frame.{ShownObject, ShownFrame, has_byte, by_object}
+
+-- a stack object as a listing shows it
+abbrev pub object_placed : Object → ShownObject
+object_placed o = record { id = o.id; size = o.size; offset = o.offset }
 
 -- the frame that the listing of a function shows
 abbrev pub frame_of : FramedFunction → ShownFrame
-frame_of f = record { below = own_size f; objects = map object_listed f.objects }
+frame_of f = record { below = own_size f; objects = map object_placed f.objects }
 
 -- operands with an address of the form object + number, relative to the object that a listing shows for it
 abbrev pub settled_sum : FramedFunction → List Operand → List Operand
@@ -69,7 +72,7 @@ settled f b = record b { items = map (settled_item f) b.items }
 -- no object but the one with this number has the byte at an offset of it
 abbrev pub IsAlone : List Object → (n offset : ℕ) → Type 0
 IsAlone objects n offset =
-    (o : Object) → Contains objects o → IsTrue (has_byte (offset_of objects n + offset) (object_listed o)) → object_of objects n ≡ Some o
+    (o : Object) → Contains objects o → IsTrue (has_byte (offset_of objects n + offset) (object_placed o)) → object_of objects n ≡ Some o
 
 -- if the base is a stack object, no other object has the byte at this offset
 abbrev pub IsBaseAlone : List Object → Base → (offset : ℕ) → Type 0

@@ -40,9 +40,9 @@ use Rattle.read_proof.specs.read_body.Limits.{MAX_ITEMS}
 use Rattle.mir_printer.specs.Printable.{IsNumber, HasNumbers, IsPrintablePlace}
 use Rattle.mir_printer.specs.Printable.{IsPrintableKind, IsPrintableLoc, IsPrintable}
 use Rattle.listing_function.specs.listing_text.Shown.{IsPrintableOrigin}
-use Rattle.listing_function.specs.Printable.{IsPrintableFramedKind, IsPrintableFramedItem, IsPrintableFramedBlock, IsPrintableFramed}
+use Rattle.listing_function.specs.Printable.{IsPrintableNumber, IsPrintableFramedKind, IsPrintableFramedItem, IsPrintableFramedBlock, IsPrintableFramed}
 use Rattle.listing_function.proofs.Printed.{both_sides, signed}
-use Rattle.read_proof.specs.Read.{declared_in}
+use Rattle.read_proof.specs.Read.{IsObjectNumber, declared_in}
 use Rattle.listing_proof.specs.Laws.{inlined_in, IsPrintableBlock, IsPrintableBody, ReadFunctionsHavePrintableBodies, BodiesArePrintable}
 use Rattle.listing_proof.specs.Laws.{ReadFunctionsArePrintable}
 
@@ -324,9 +324,14 @@ module _ (meta : Maps) (f : Function) where
       (blocks_printable bs (omega (arith, few, both)) (All-tail (λ (x : Block). x.id ≤ MAX_NUMBER) b bs ids)
       (All-tail (λ (x : Block). x.source_end ≡ length x.items) b bs source_end) (All-tail (λ (x : Block). All ReadItem x.items) b bs prints))
 
+object_number : (id : ℕ) (fixed : Option ℤ) → IsObjectNumber id fixed → IsPrintableNumber id fixed
+object_number id None small = number id small
+object_number id (Some d) is = (omega (arith, is.1), is.0)
+
 pub read_bodies : ReadFunctionsHavePrintableBodies
 read_bodies meta f read = record {
-  objects = All-weaker (λ (o : func.Object). o.id ≤ MAX_NUMBER) (λ (o : func.Object). IsNumber o.id) (λ o small. number o.id small) f.objects read.objects;
+  objects = All-weaker (λ (o : func.Object). IsObjectNumber o.id o.fixed_offset) (λ (o : func.Object). IsPrintableNumber o.id o.fixed_offset)
+      (λ o is. object_number o.id o.fixed_offset is) f.objects read.objects;
   blocks = blocks_printable meta f f.blocks read.few_items read.ids read.read.source_end read.printable;
 }
 

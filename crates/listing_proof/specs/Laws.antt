@@ -10,7 +10,7 @@ use Rattle.read_proof.specs.read_item.Debug.{inlined_at_node}
 use Rattle.mir_printer.specs.Printable.{IsNumber, IsPrintableLoc}
 use Rattle.frame_rule.specs.Rule.{framed_of}
 use Rattle.read_proof.specs.Read.{IsReadFunction}
-use Rattle.listing_function.specs.Printable.{IsPrintableFramedKind, IsPrintableFramed}
+use Rattle.listing_function.specs.Printable.{IsPrintableNumber, IsPrintableFramedKind, IsPrintableFramed}
 
 -- the node at which the DILocation of a node is inlined, by the metadata
 abbrev pub inlined_in : Maps → ℕ → Option ℕ
@@ -26,7 +26,7 @@ pub record IsPrintableBlock (inlined : ℕ → Option ℕ) (b : Block) : Type 0 
 
 -- Each block is printable, and the numbers of stack objects have 32 bits.
 pub record IsPrintableBody (inlined : ℕ → Option ℕ) (f : Function) : Type 0 where
-  pub objects : All (λ o. IsNumber o.id) f.objects
+  pub objects : All (λ o. IsPrintableNumber o.id o.fixed_offset) f.objects
   pub blocks : All (IsPrintableBlock inlined) f.blocks
 
 -- A function that was read has a printable body.

@@ -1,27 +1,31 @@
 -- What a line of an output tells.
 use Rattle.mir_func.specs.declared.debug_substitution.OperandPair.{OperandPair}
 use Rattle.std.specs.Prelude.{Bool, true, false, cond, nat_eq, codes, IfSome}
-use Rattle.std.specs.Fmt.{decimal}
-use Rattle.std.proofs.Common.{◌≡◌, ℕ, ◌/◌, ◌%◌, List, [], ◌∷◌, ◌++◌, length, Option, Some, None, arith, ap, sym, ◌∙◌, refl, append_assoc}
-use Rattle.std.proofs.lemmas.Bool.{eqb-true, eqb-false}
+use Rattle.std.specs.Fmt.{decimal, signed_decimal}
+use Rattle.std.proofs.Common.{◌≡◌, ℕ, ◌-◌, ◌≤◌, ◌/◌, ◌%◌, List, [], ◌∷◌, ◌++◌, length, Option, Some, None, arith, ap, sym, subst, ◌∙◌, refl, append_assoc}
+use Rattle.base_ids.specs.Limits.{FIXED, text_number}
+use Rattle.std.proofs.lemmas.Bool.{eqb-true, eqb-false, le-leb}
 use Rattle.mir_func.specs.declared.position.Pos.{Pos}
 use Rattle.mir_func.specs.declared.position.Origin.{Origin}
 use Rattle.mir_func.specs.declared.position.Origin.TheVariants.{Kept, Before}
 use Rattle.mir_func.specs.declared.debug_substitution.DebugSubstitution.{DebugSubstitution}
 use Rattle.mir_printer.specs.Spelling.{item_text, quoted_byte, upper_hex_digit}
 use Rattle.mir_printer.specs.Printable.{IsNumber}
-use Rattle.mir_printer.proofs.Cuts.{front_one, apart, Spells, spelled_one}
+use Rattle.mir_printer.proofs.Cuts.{front_one, apart, Spells, spelled_one, signed_one}
 use Rattle.mir_printer.proofs.Symbols.{is_plain, digit_one, quoted_one, quoted_head}
 use Rattle.mir_printer.proofs.Operands.{number_one}
 use Rattle.mir_printer.proofs.Items.{item_line_one}
 use Rattle.listing_text.specs.Hex.{hex_lines, address_text}
 use Rattle.listing_text.specs.declared.output.ItemLine.{ItemLine}
 use Rattle.listing_text.specs.declared.output.ListedVariable.{ListedVariable}
+use Rattle.listing_text.specs.declared.output.ObjectPlace.{ObjectPlace}
+use Rattle.listing_text.specs.declared.output.ObjectPlace.TheVariants.{InArea, FromEntry}
 use Rattle.listing_text.specs.declared.output.ListedObject.{ListedObject}
 use Rattle.listing_text.specs.Output.{section_text, name_byte, name_text, function_line, inlined_text, variable_line}
 use Rattle.listing_text.specs.Output.{substitution_line, position_text, spaced_origin, start_text, item_line, block_line, pair_text, object_line}
+use Rattle.listing_text.specs.Output.{object_text}
 use Rattle.listing_text.specs.Shown.{HasNumbersAt, IsPrintableOrigin, IsPrintableItem, IsPrintableVariable, IsPrintableEntry, declared_by, HasNumbers}
-use Rattle.listing_text.specs.Shown.{IsPrintableObject}
+use Rattle.listing_text.specs.Shown.{IsPrintableObjectPlace, IsPrintableObject}
 use Rattle.listing_text.proofs.HexLemmas.{address_one, address_heads, bytes_one}
 
 -- ---- sections
@@ -184,15 +188,49 @@ object_parts : (a b c d e f g rest : List ℕ) →
     (a ++ b ++ c ++ d ++ e ++ f ++ g) ++ rest ≡ a ++ (b ++ (c ++ (d ++ (e ++ (f ++ (g ++ rest))))))
 object_parts a b c d e f g rest = simp append_assoc
 
+-- what the line of an object tells
+record OneObject (i j m n : ℕ) (p q : ObjectPlace) (r s : List ℕ) : Type 0 where
+  id : i ≡ j
+  size : m ≡ n
+  place : p ≡ q
+  rest : r ≡ s
+
+-- a number from FIXED on is that of one N
+fixed_one : (i j : ℕ) → FIXED ≤ i → FIXED ≤ j → text_number i ≡ text_number j → i ≡ j
+fixed_one i j low lower e =
+    let left : text_number i ≡ i - FIXED = ap (λ (b : Bool). cond b (i - FIXED) i) (le-leb FIXED i low) in
+    let right : text_number j ≡ j - FIXED = ap (λ (b : Bool). cond b (j - FIXED) j) (le-leb FIXED j lower) in
+    let same : i - FIXED ≡ j - FIXED = sym left ∙ (e ∙ right) in
+    omega (arith, same, low, lower)
+
+text_small : (i : ℕ) → FIXED ≤ i → IsNumber i → IsNumber (text_number i)
+text_small i low small = subst IsNumber (sym (ap (λ (b : Bool). cond b (i - FIXED) i) (le-leb FIXED i low))) (omega (arith, small))
+
+object_text_one : (i j m n : ℕ) (p q : ObjectPlace) (r s : List ℕ) → IsNumber i → IsNumber j → IsNumber m → IsNumber n → IsPrintableObjectPlace i p →
+    IsPrintableObjectPlace j q → object_text i m p ++ r ≡ object_text j n q ++ s → OneObject i j m n p q r s
+object_text_one i j m n (InArea a) (InArea b) r s is others small other place places e =
+    let whole = sym (object_parts (codes "object ") (decimal i) (codes " ") (decimal m) (codes " ") (decimal a) (10 ∷ []) r)
+    ∙ (e ∙ object_parts (codes "object ") (decimal j) (codes " ") (decimal n) (codes " ") (decimal b) (10 ∷ []) s) in
+    let id = number_one i j _ _ is others refl refl (front_one (codes "object ") _ _ whole) in
+    let size = number_one m n _ _ small other refl refl (front_one (codes " ") _ _ id.1) in
+    let offset = number_one a b _ _ place places refl refl (front_one (codes " ") _ _ size.1) in
+    record { id = id.0; size = size.0; place = ap InArea offset.0; rest = front_one (10 ∷ []) r s offset.1 }
+object_text_one i j m n (FromEntry a) (FromEntry b) r s is others small other place places e =
+    let whole = sym (object_parts (codes "incoming ") (decimal (text_number i)) (codes " ") (decimal m) (codes " ") (signed_decimal a) (10 ∷ []) r)
+    ∙ (e ∙ object_parts (codes "incoming ") (decimal (text_number j)) (codes " ") (decimal n) (codes " ") (signed_decimal b) (10 ∷ []) s) in
+    let id = number_one (text_number i) (text_number j) _ _ (text_small i place.1 is) (text_small j places.1 others) refl refl
+    (front_one (codes "incoming ") _ _ whole) in
+    let size = number_one m n _ _ small other refl refl (front_one (codes " ") _ _ id.1) in
+    let offset = signed_one a b _ _ place.0 places.0 refl refl (front_one (codes " ") _ _ size.1) in
+    record { id = fixed_one i j place.1 places.1 id.0; size = size.0; place = ap FromEntry offset.0; rest = front_one (10 ∷ []) r s offset.1 }
+object_text_one i j m n (InArea a) (FromEntry b) r s is others small other place places e = absurd (apart 111 105 _ _ refl e)
+object_text_one i j m n (FromEntry a) (InArea b) r s is others small other place places e = absurd (apart 105 111 _ _ refl e)
+
 pub object_line_one : (x y : ListedObject) (r s : List ℕ) → IsPrintableObject x → IsPrintableObject y → object_line x ++ r ≡ object_line y ++ s →
     (x ≡ y) × (r ≡ s)
 object_line_one x y r s is others e =
-    let whole = sym (object_parts (codes "object ") (decimal x.id) (codes " ") (decimal x.size) (codes " ") (decimal x.offset) (10 ∷ []) r)
-    ∙ (e ∙ object_parts (codes "object ") (decimal y.id) (codes " ") (decimal y.size) (codes " ") (decimal y.offset) (10 ∷ []) s) in
-    let id = number_one x.id y.id _ _ is.id others.id refl refl (front_one (codes "object ") _ _ whole) in
-    let size = number_one x.size y.size _ _ is.size others.size refl refl (front_one (codes " ") _ _ id.1) in
-    let offset = number_one x.offset y.offset _ _ is.offset others.offset refl refl (front_one (codes " ") _ _ size.1) in
-    (λ k. record { id = id.0 k; size = size.0 k; offset = offset.0 k }, front_one (10 ∷ []) r s offset.1)
+    let one = object_text_one x.id y.id x.size y.size x.place y.place r s is.id others.id is.size others.size is.place others.place e in
+    (λ k. record { id = one.id k; size = one.size k; place = one.place k }, one.rest)
 
 -- ---- an item's line
 

@@ -1,7 +1,8 @@
 -- A text shows at most one output.
 use Rattle.std.specs.Prelude.{Bool, true, false, nat_eq, nat_lt, codes, All, IfSome}
 use Rattle.std.specs.List.{flat_map}
-use Rattle.std.proofs.Common.{◌≡◌, ℕ, ◌<◌, List, [], ◌∷◌, ◌++◌, length, drop, Option, Some, None, arith, ap, sym, ◌∙◌, refl, append_assoc, append-nil, subst}
+use Rattle.std.proofs.Common.{◌≡◌, ℕ, ◌<◌, ◌||◌, List, [], ◌∷◌, ◌++◌, length, drop, Option, Some, None, arith, ap, sym, ◌∙◌, refl, append_assoc, append-nil}
+use Rattle.std.proofs.Common.{subst}
 use Rattle.std.proofs.Common.{◌^◌}
 use Rattle.std.proofs.lemmas.Bool.{ne_eqb, lt-ltb}
 use Rattle.std.proofs.lemmas.List.Elements.{All-head, All-tail}
@@ -14,11 +15,14 @@ use Rattle.listing_text.specs.declared.output.ItemLine.{ItemLine}
 use Rattle.listing_text.specs.declared.output.SkipLine.{SkipLine}
 use Rattle.listing_text.specs.declared.output.Line.{Line}
 use Rattle.listing_text.specs.declared.output.Line.TheVariants.{Item, Skip}
+use Rattle.listing_text.specs.declared.output.ObjectPlace.{ObjectPlace}
+use Rattle.listing_text.specs.declared.output.ObjectPlace.TheVariants.{InArea, FromEntry}
 use Rattle.listing_text.specs.declared.output.ListedBlock.{ListedBlock}
 use Rattle.listing_text.specs.declared.output.ListedFunction.{ListedFunction}
 use Rattle.listing_text.specs.declared.output.Output.{Output}
 use Rattle.listing_text.specs.Output.{section_text, section_if, listing_text, function_line, variable_line, substitution_line, spaced_origin}
 use Rattle.listing_text.specs.Output.{start_text, item_line, skip_line, skip_text, line_text, block_line, block_text, function_text, spelling, object_line}
+use Rattle.listing_text.specs.Output.{object_text}
 use Rattle.listing_text.specs.Shown.{IsPrintableLine, IsPrintableVariable, IsPrintableEntry, IsPrintableBlock, IsPrintableFunction, IsPrintableOutput, Shows}
 use Rattle.listing_text.specs.Shown.{IsPrintableObject, IsPrintableItem, IsPrintableSkip}
 use Rattle.listing_text.proofs.HexLemmas.{address_heads}
@@ -155,9 +159,17 @@ variables_tell = record {
   one = λ v w r s is others after afters e. variable_line_one v w r s is others e;
 }
 
-objects_tell : Tells IsPrintableObject object_line (begins_with 111) Anything
+-- the line of an object, which may be a fixed one
+abbrev begins_object : List ℕ → Bool
+begins_object t = begins_with 111 t || begins_with 105 t
+
+object_begins : (id size : ℕ) (place : ObjectPlace) (r : List ℕ) → begins_object (object_text id size place ++ r) ≡ true
+object_begins id size (InArea n) r = refl
+object_begins id size (FromEntry d) r = refl
+
+objects_tell : Tells IsPrintableObject object_line begins_object Anything
 objects_tell = record {
-  begin = λ x r is. refl;
+  begin = λ x r is. object_begins x.id x.size x.place r;
   after = λ x r is. tt;
   one = λ x y r s is others after afters e. object_line_one x y r s is others e;
 }
@@ -238,7 +250,7 @@ blocks_tell inlined = record {
 pub record EndsFunction (t : List ℕ) : Type 0 where
   pub lines : begins_line t ≡ false
   pub blocks : begins_with 98 t ≡ false
-  pub objects : begins_with 111 t ≡ false
+  pub objects : begins_object t ≡ false
   pub variables : begins_with 118 t ≡ false
   pub substitutions : begins_with 115 t ≡ false
 
@@ -278,19 +290,23 @@ module _ (inlined : ℕ → Option ℕ) where
       (none_passes (IsPrintableLine inlined) line_text (begins_with 118) (line_other inlined 118 (omega arith)) f.prologue (from_blocks f r) is.prologue
       (none_passes (IsPrintableBlock inlined) block_text (begins_with 118) (λ b r is. refl) f.blocks r is.blocks end.variables))
 
-  no_objects : (f : ListedFunction) (r : List ℕ) → IsPrintableFunction inlined f → EndsFunction r → begins_with 111 (from_variables f r) ≡ false
+  line_no_object : (l : Line) (r : List ℕ) → IsPrintableLine inlined l → begins_object (line_text l ++ r) ≡ false
+  line_no_object l r is =
+      ap (λ (b : Bool). b || begins_with 105 (line_text l ++ r)) (line_other inlined 111 (omega arith) l r is) ∙ line_other inlined 105 (omega arith) l r is
+
+  no_objects : (f : ListedFunction) (r : List ℕ) → IsPrintableFunction inlined f → EndsFunction r → begins_object (from_variables f r) ≡ false
   no_objects f r is end =
-      none_passes IsPrintableVariable variable_line (begins_with 111) (λ x r is. refl) f.variables (from_substitutions f r) is.variables
-      (none_passes IsPrintableEntry substitution_line (begins_with 111) (λ x r is. refl) f.substitutions (from_prologue f r) is.substitutions
-      (none_passes (IsPrintableLine inlined) line_text (begins_with 111) (line_other inlined 111 (omega arith)) f.prologue (from_blocks f r) is.prologue
-      (none_passes (IsPrintableBlock inlined) block_text (begins_with 111) (λ b r is. refl) f.blocks r is.blocks end.objects)))
+      none_passes IsPrintableVariable variable_line begins_object (λ x r is. refl) f.variables (from_substitutions f r) is.variables
+      (none_passes IsPrintableEntry substitution_line begins_object (λ x r is. refl) f.substitutions (from_prologue f r) is.substitutions
+      (none_passes (IsPrintableLine inlined) line_text begins_object line_no_object f.prologue (from_blocks f r) is.prologue
+      (none_passes (IsPrintableBlock inlined) block_text begins_object (λ b r is. refl) f.blocks r is.blocks end.objects)))
 
   function_one : (f g : ListedFunction) (r s : List ℕ) → IsPrintableFunction inlined f → IsPrintableFunction inlined g → EndsFunction r → EndsFunction s →
       function_text f ++ r ≡ function_text g ++ s → (f ≡ g) × (r ≡ s)
   function_one f g r s is others end ends e =
       let whole = sym (function_is f r) ∙ (e ∙ function_is g s) in
       let head = function_line_one f.name g.name f.low f.high g.low g.high _ _ whole in
-      let objects = many_one IsPrintableObject object_line (begins_with 111) Anything objects_tell f.objects g.objects (from_variables f r)
+      let objects = many_one IsPrintableObject object_line begins_object Anything objects_tell f.objects g.objects (from_variables f r)
       (from_variables g s) is.objects others.objects (no_objects f r is end) (no_objects g s others ends) tt tt head.3 in
       let variables = many_one IsPrintableVariable variable_line (begins_with 118) Anything variables_tell f.variables g.variables (from_substitutions f r)
       (from_substitutions g s) is.variables others.variables

@@ -1,7 +1,8 @@
 -- The text of an output.
 use Rattle.std.specs.Prelude.{ℕ, cond, nat_eq, List, [], ◌∷◌, ◌++◌, length, codes, Option, Some, None}
 use Rattle.std.specs.List.{flat_map}
-use Rattle.std.specs.Fmt.{decimal}
+use Rattle.std.specs.Fmt.{decimal, signed_decimal}
+use Rattle.base_ids.specs.Limits.{text_number}
 use Rattle.rv64_instr.specs.declared.operand.Operand.{Operand}
 use Rattle.rv64_instr.specs.declared.operand.Operand.TheVariants.{ImplicitDef, ImplicitUse}
 use Rattle.rv64_instr.specs.Mnemonic.{branch_name}
@@ -18,6 +19,8 @@ use Rattle.listing_text.specs.declared.output.SkipLine.{SkipLine}
 use Rattle.listing_text.specs.declared.output.Line.{Line}
 use Rattle.listing_text.specs.declared.output.Line.TheVariants.{Item, Skip}
 use Rattle.listing_text.specs.declared.output.ListedVariable.{ListedVariable}
+use Rattle.listing_text.specs.declared.output.ObjectPlace.{ObjectPlace}
+use Rattle.listing_text.specs.declared.output.ObjectPlace.TheVariants.{InArea, FromEntry}
 use Rattle.listing_text.specs.declared.output.ListedObject.{ListedObject}
 use Rattle.listing_text.specs.declared.output.ListedBlock.{ListedBlock}
 use Rattle.listing_text.specs.declared.output.ListedFunction.{ListedFunction}
@@ -56,9 +59,15 @@ name_text name = flat_map name_byte name
 abbrev pub function_line : (name : List ℕ) → (low high : ℕ) → List ℕ
 function_line name low high = codes "function " ++ name_text name ++ codes " " ++ address_text low ++ codes " " ++ address_text high ++ 10 ∷ []
 
--- a stack object: its number, its size in bytes, and its offset from the first object's first byte
+-- a stack object: its number, its size in bytes, and its offset from the lowest byte of the objects' area; of a fixed one, which the caller may have written,
+-- the N of `%fixed-stack.N`, its size, and its offset from the stack pointer at entry
+abbrev pub object_text : (id size : ℕ) → ObjectPlace → List ℕ
+object_text id size (InArea n) = codes "object " ++ decimal id ++ codes " " ++ decimal size ++ codes " " ++ decimal n ++ 10 ∷ []
+object_text id size (FromEntry d) = codes "incoming " ++ decimal (text_number id) ++ codes " " ++ decimal size ++ codes " " ++ signed_decimal d ++ 10 ∷ []
+
+-- the line of a stack object
 abbrev pub object_line : ListedObject → List ℕ
-object_line o = codes "object " ++ decimal o.id ++ codes " " ++ decimal o.size ++ codes " " ++ decimal o.offset ++ 10 ∷ []
+object_line o = object_text o.id o.size o.place
 
 -- the node of the location at which a variable is inlined, or `-`
 abbrev pub inlined_text : Option ℕ → List ℕ

@@ -1,5 +1,7 @@
 -- The output that a text shows.
-use Rattle.std.specs.Prelude.{◌≡◌, ℕ, false, List, length, All, Option, None, IfSome}
+use Rattle.std.specs.Prelude.{◌≡◌, ℕ, ◌≤◌, false, List, length, All, Option, None, IfSome}
+use Rattle.base_ids.specs.Limits.{FIXED}
+use Rattle.rv64_instr.specs.Form.{IsSigned}
 use Rattle.mir_func.specs.declared.position.Pos.{Pos}
 use Rattle.mir_func.specs.declared.position.Origin.{Origin}
 use Rattle.mir_func.specs.declared.position.Origin.TheVariants.{Kept, Before}
@@ -13,6 +15,8 @@ use Rattle.listing_text.specs.declared.output.SkipLine.{SkipLine}
 use Rattle.listing_text.specs.declared.output.Line.{Line}
 use Rattle.listing_text.specs.declared.output.Line.TheVariants.{Item, Skip}
 use Rattle.listing_text.specs.declared.output.ListedVariable.{ListedVariable}
+use Rattle.listing_text.specs.declared.output.ObjectPlace.{ObjectPlace}
+use Rattle.listing_text.specs.declared.output.ObjectPlace.TheVariants.{InArea, FromEntry}
 use Rattle.listing_text.specs.declared.output.ListedObject.{ListedObject}
 use Rattle.listing_text.specs.declared.output.ListedBlock.{ListedBlock}
 use Rattle.listing_text.specs.declared.output.ListedFunction.{ListedFunction}
@@ -68,11 +72,16 @@ pub record IsPrintableVariable (v : ListedVariable) : Type 0 where
 abbrev pub HasNumbers : OperandPair → Type 0
 HasNumbers q = IsNumber q.number × IsNumber q.operand
 
+-- an offset has 32 bits; a fixed object, of which a text has the N alone, has the number of one
+abbrev pub IsPrintableObjectPlace : (id : ℕ) → ObjectPlace → Type 0
+IsPrintableObjectPlace id (InArea n) = IsNumber n
+IsPrintableObjectPlace id (FromEntry d) = IsSigned d × (FIXED ≤ id)
+
 -- number, size and offset of a stack object have 32 bits
 pub record IsPrintableObject (o : ListedObject) : Type 0 where
   pub id : IsNumber o.id
   pub size : IsNumber o.size
-  pub offset : IsNumber o.offset
+  pub place : IsPrintableObjectPlace o.id o.place
 
 -- the numbers of a debug value substitution have 32 bits
 pub record IsPrintableEntry (e : DebugSubstitution) : Type 0 where

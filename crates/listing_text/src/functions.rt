@@ -3,17 +3,18 @@
 ghost use Rattle.std.specs.Prelude.{◌≡◌, ◌++◌, OnOk};
 ghost use Rattle.std.specs.List.{flat_map};
 ghost use Rattle.listing_text.specs.Output.{listing_text, function_text, head_text, code_text, function_line};
-ghost use Rattle.listing_text.specs.Output.{object_line, variable_line, inlined_text, substitution_line};
+ghost use Rattle.listing_text.specs.declared.output.ObjectPlace.TheVariants.{InArea, FromEntry};
+ghost use Rattle.listing_text.specs.Output.{object_text, object_line, variable_line, inlined_text, substitution_line};
 ghost use Rattle.listing_text.specs.Output.{pair_text, block_text, block_line};
 
 use crate::hex::push_address;
 use crate::line::push_lines;
 use crate::name::push_name;
-use crate::output::{ListedBlock, ListedFunction, ListedObject, ListedVariable};
-use base_ids::function_ids::BlockId;
+use crate::output::{ListedBlock, ListedFunction, ListedObject, ListedVariable, ObjectPlace};
+use base_ids::function_ids::{BlockId, ObjectId};
 use base_ids::metadata::NodeId;
 use mir_func::debug_substitution::{DebugSubstitution, OperandPair};
-use mir_printer::text::{Text, push_decimal, push_numbered, push_str};
+use mir_printer::text::{Text, push_decimal, push_numbered, push_signed, push_str};
 use std::alloc::AllocError;
 
 /// Appends the listing of functions.
@@ -77,9 +78,30 @@ fn push_objects(text: &mut Text, objects: &[ListedObject]) -> Result<(), AllocEr
 fn push_object(text: &mut Text, object: &ListedObject) -> Result<(), AllocError>
     ensures { OnOk result (text.new ≡ text.old ++ object_line object.now) }
 {
-    push_numbered(text, "object ", object.id.number())?;
-    push_numbered(text, " ", object.size)?;
-    push_numbered(text, " ", object.offset)?;
+    match object.place {
+        ObjectPlace::InArea(offset) => push_own(text, object.id, object.size, offset),
+        ObjectPlace::FromEntry(offset) => push_incoming(text, object.id, object.size, offset),
+    }
+}
+
+/// Appends the line of an object that isn't fixed.
+fn push_own(text: &mut Text, id: ObjectId, size: u32, offset: u32) -> Result<(), AllocError>
+    ensures { OnOk result (text.new ≡ text.old ++ object_text id size (InArea offset)) }
+{
+    push_numbered(text, "object ", id.number())?;
+    push_numbered(text, " ", size)?;
+    push_numbered(text, " ", offset)?;
+    text.push(b'\n')
+}
+
+/// Appends the line of a fixed object.
+fn push_incoming(text: &mut Text, id: ObjectId, size: u32, offset: i32) -> Result<(), AllocError>
+    ensures { OnOk result (text.new ≡ text.old ++ object_text id size (FromEntry offset)) }
+{
+    push_numbered(text, "incoming ", id.text_number())?;
+    push_numbered(text, " ", size)?;
+    push_str(text, " ")?;
+    push_signed(text, i64::from(offset))?;
     text.push(b'\n')
 }
 

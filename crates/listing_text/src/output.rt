@@ -75,6 +75,15 @@ pub struct ListedVariable {
     pub name: Name,
 }
 
+/// Where a stack object begins.
+#[derive(Clone, Copy, Debug, PartialEq, Eq)]
+pub enum ObjectPlace {
+    /// So many bytes behind the lowest byte of the objects' area.
+    InArea(u32),
+    /// So many bytes above or below the stack pointer at entry: it is a fixed object.
+    FromEntry(i32),
+}
+
 /// A stack object of a function.
 #[derive(Clone, Copy, Debug, PartialEq, Eq)]
 pub struct ListedObject {
@@ -82,8 +91,8 @@ pub struct ListedObject {
     pub id: ObjectId,
     /// Its size in bytes.
     pub size: u32,
-    /// Its offset from the first object's first byte, in bytes.
-    pub offset: u32,
+    /// Where it begins.
+    pub place: ObjectPlace,
 }
 
 /// A block of a function.

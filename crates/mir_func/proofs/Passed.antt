@@ -6,6 +6,7 @@ use Rattle.rv64_instr.specs.declared.operand.Operand.TheVariants.{Outgoing}
 use Rattle.rv64_instr.specs.Instruction.{Instruction}
 use Rattle.rv64_instr.specs.Row.{Row, Calls, row_of, outgoing_words}
 use Rattle.rv64_instr.proofs.Passed.{outgoing_are}
+pub use Rattle.rv64_instr.proofs.Passed.{passed_by}
 use Rattle.mir_func.specs.Sound.{PassedIn, BeginWith, PassesFirst}
 use Rattle.mir_func.specs.SoundFrame.{AreDoublewords}
 

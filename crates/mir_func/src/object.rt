@@ -75,7 +75,7 @@ pub fn counted(local: Option<u32>) -> usize
 }
 
 /// How far below the stack pointer at entry an object at this offset from it begins, or 0.
-fn depth_of(fixed: Option<i32>) -> u32
+pub fn depth_of(fixed: Option<i32>) -> u32
     ensures value { result ≡ depth_of fixed }
     ensures small { result ≤ 2147483648 }
 {

@@ -1,8 +1,10 @@
 -- The text of a function (LLVM, Machine IR (MIR) Format Reference Manual, "High Level Structure"). The stack and the
 -- substitutions are YAML lists of maps.
-use Rattle.std.specs.Prelude.{ℕ, Bool, true, false, cond, ◌&&◌, ◌||◌, nat_eq, nat_le, List, [], ◌∷◌, ◌++◌, Option, Some, None, codes}
-use Rattle.std.specs.List.{flat_map, list_all}
-use Rattle.std.specs.Fmt.{decimal}
+use Rattle.std.specs.Prelude.{ℕ, ℤ, Bool, true, false, not, cond, ◌&&◌, ◌||◌, nat_eq, nat_le, List, [], ◌∷◌, ◌++◌, Option, Some, None, is_some, is_none}
+use Rattle.std.specs.Prelude.{codes}
+use Rattle.std.specs.List.{flat_map, list_all, list_any}
+use Rattle.std.specs.Fmt.{decimal, signed_decimal}
+use Rattle.base_ids.specs.Limits.{text_number}
 use Rattle.mir_exposure.specs.declared.exposure.Exposure.{Exposure}
 use Rattle.mir_exposure.specs.declared.exposure.Exposure.TheVariants.{Nothing, Globals, Everything}
 use Rattle.mir_func.specs.Function.{Function}
@@ -53,15 +55,45 @@ object_numbers o = codes "  - { id: " ++ decimal o.id ++ codes ", size: " ++ dec
 abbrev pub object_line : Object → List ℕ
 object_line o = object_numbers o ++ local_text o.local_offset ++ (codes " }" ++ 10 ∷ [])
 
+-- the line of a stack object in `stack`: a fixed one has none
+abbrev pub own_line : Object → (fixed : Option ℤ) → List ℕ
+own_line o None = object_line o
+own_line o (Some d) = []
+
+-- the line of a stack object in `fixedStack`: one that isn't fixed has none
+abbrev pub fixed_line : Object → (fixed : Option ℤ) → List ℕ
+fixed_line o None = []
+fixed_line o (Some d) = codes "  - { id: " ++ decimal (text_number o.id) ++ codes ", offset: " ++ signed_decimal d ++ codes ", size: " ++ decimal o.size
+    ++ (codes " }" ++ 10 ∷ [])
+
+-- the same by the object alone
+abbrev pub stack_line : Object → List ℕ
+stack_line o = own_line o o.fixed_offset
+
+abbrev pub fixed_stack_line : Object → List ℕ
+fixed_stack_line o = fixed_line o o.fixed_offset
+
+-- whether an object is fixed
+abbrev pub is_fixed : Object → Bool
+is_fixed o = is_some o.fixed_offset
+
+-- whether it isn't
+abbrev pub is_own : Object → Bool
+is_own o = is_none o.fixed_offset
+
+-- the fixed objects, unless there are none
+abbrev pub fixed_text : List Object → List ℕ
+fixed_text objects = cond (list_any is_fixed objects) (codes "fixedStack:" ++ 10 ∷ [] ++ flat_map fixed_stack_line objects) []
+
 -- the list is empty
 abbrev pub is_nothing : {A : Type 0} → List A → Bool
 is_nothing [] = true
 is_nothing (x ∷ xs) = false
 
--- the stack, slots before objects, unless there is neither
+-- the stack, slots before objects that aren't fixed, unless there is neither
 abbrev pub stack_text : List ℕ → List Object → List ℕ
 stack_text slots objects =
-    cond (is_nothing slots && is_nothing objects) [] (codes "stack:" ++ 10 ∷ [] ++ flat_map slot_line slots ++ flat_map object_line objects)
+    cond (is_nothing slots && not (list_any is_own objects)) [] (codes "stack:" ++ 10 ∷ [] ++ flat_map slot_line slots ++ flat_map stack_line objects)
 
 -- a line of a label and a number
 abbrev pub numbered_line : List ℕ → ℕ → List ℕ
@@ -122,8 +154,8 @@ stack_and_body f entries = stack_text f.slots f.objects ++ substitutions_text en
 
 -- The text of a function and its substitutions.
 unfoldable pub func_text : Function → List DebugSubstitution → List ℕ
-func_text f entries = document_with f (stack_and_body f entries)
+func_text f entries = document_with f (fixed_text f.objects ++ stack_and_body f entries)
 
 -- The text of a function, the constants of its pool, its substitutions and what it exposes.
 unfoldable pub linked_func_text : Function → List PoolConstant → List DebugSubstitution → Exposure → List ℕ
-linked_func_text f pool entries exposure = document_with f (exposure_text exposure ++ (pool_text pool ++ stack_and_body f entries))
+linked_func_text f pool entries exposure = document_with f (exposure_text exposure ++ (fixed_text f.objects ++ (pool_text pool ++ stack_and_body f entries)))

@@ -2,9 +2,10 @@
 
 ghost use Rattle.std.specs.Prelude.{◌≡◌, ◌++◌, [], IfOk, OnOk};
 ghost use Rattle.mir_func_printer.specs.FuncText.{document_with, exposure_text, stack_and_body, func_text};
-ghost use Rattle.mir_func_printer.specs.FuncText.{linked_func_text};
+ghost use Rattle.mir_func_printer.specs.FuncText.{fixed_text, pool_text, linked_func_text};
 
 use crate::body::push_blocks;
+use crate::fixed::push_fixed;
 use crate::name::push_name;
 use crate::pool::push_pool;
 use crate::stack::{push_stack, push_substitutions};
@@ -45,6 +46,41 @@ fn push_stack_and_body(text: &mut Text, f: &Func, subs: &Substitutions) -> Resul
     push_str(text, "...\n")
 }
 
+/// Appends the document of a function from its fixed objects on.
+fn push_frame_and_body(text: &mut Text, f: &Func, subs: &Substitutions) -> Result<(), AllocError>
+    ensures { OnOk result (text.new ≡ text.old ++ (fixed_text f.now.objects ++ stack_and_body f.now subs.now)) }
+{
+    push_fixed(text, f.objects.as_slice())?;
+    push_stack_and_body(text, f, subs)
+}
+
+/// Appends the document of a function from the constants of its pool on.
+fn push_pool_and_body(
+    text: &mut Text,
+    f: &Func,
+    pool: &[PoolConstant],
+    subs: &Substitutions,
+) -> Result<(), AllocError>
+    ensures { OnOk result (text.new ≡ text.old ++ (pool_text pool.now ++ stack_and_body f.now subs.now)) }
+{
+    push_pool(text, pool)?;
+    push_stack_and_body(text, f, subs)
+}
+
+/// Appends the document of a function from its fixed objects on, with the constants of its pool.
+fn push_linked_frame_and_body(
+    text: &mut Text,
+    f: &Func,
+    pool: &[PoolConstant],
+    subs: &Substitutions,
+) -> Result<(), AllocError>
+    ensures { OnOk result (text.new
+        ≡ text.old ++ (fixed_text f.now.objects ++ (pool_text pool.now ++ stack_and_body f.now subs.now))) }
+{
+    push_fixed(text, f.objects.as_slice())?;
+    push_pool_and_body(text, f, pool, subs)
+}
+
 /// The document of a function and its substitutions.
 #[tactic(auto, unfolding(crate::specs::FuncText::func_text))]
 pub fn print_func(alloc: Global, f: &Func, subs: &Substitutions) -> Result<Text, AllocError>
@@ -52,7 +88,7 @@ pub fn print_func(alloc: Global, f: &Func, subs: &Substitutions) -> Result<Text,
 {
     let mut text = Text::new(alloc);
     push_head(&mut text, f)?;
-    push_stack_and_body(&mut text, f, subs)?;
+    push_frame_and_body(&mut text, f, subs)?;
     Ok(text)
 }
 
@@ -70,7 +106,6 @@ pub fn print_linked_func(
     let mut text = Text::new(alloc);
     push_head(&mut text, f)?;
     push_exposure(&mut text, exposure)?;
-    push_pool(&mut text, pool)?;
-    push_stack_and_body(&mut text, f, subs)?;
+    push_linked_frame_and_body(&mut text, f, pool, subs)?;
     Ok(text)
 }

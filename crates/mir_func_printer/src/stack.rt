@@ -1,12 +1,15 @@
 //! The stack and the substitutions of a function.
 
 ghost use Rattle.std.specs.Prelude.{◌≡◌, ◌++◌, OnOk};
-ghost use Rattle.std.specs.List.{flat_map};
+ghost use Rattle.std.specs.List.{flat_map, list_any};
 ghost use Rattle.mir_func_printer.specs.FuncText.{
   slot_line,
   local_text,
   object_numbers,
   object_line,
+  own_line,
+  stack_line,
+  is_own,
   stack_text,
   pair_text,
   entry_line,
@@ -65,20 +68,44 @@ fn push_slots(text: &mut Text, slots: &[SlotId]) -> Result<(), AllocError>
     Ok(())
 }
 
+/// Appends the line of a stack object, unless it is fixed.
+fn push_own(text: &mut Text, object: &Object) -> Result<(), AllocError>
+    ensures { OnOk result (text.new ≡ text.old ++ own_line object.now object.now.fixed_offset) }
+{
+    match object.fixed_offset {
+        Some(_) => Ok(()),
+        None => push_object(text, object),
+    }
+}
+
 fn push_objects(text: &mut Text, objects: &[Object]) -> Result<(), AllocError>
-    ensures { OnOk result (text.new ≡ text.old ++ flat_map object_line objects.now) }
+    ensures { OnOk result (text.new ≡ text.old ++ flat_map stack_line objects.now) }
 {
     for object in objects {
-        push_object(text, object)?;
+        push_own(text, object)?;
     }
     Ok(())
 }
 
-/// Appends the stack, slots before objects, unless there is neither.
+/// Whether an object isn't fixed.
+fn is_own(object: &Object) -> bool
+    ensures { result ≡ is_own object.now }
+{
+    object.fixed_offset.is_none()
+}
+
+/// Whether one of the objects isn't fixed.
+fn has_own(objects: &[Object]) -> bool
+    ensures { result ≡ list_any is_own objects.now }
+{
+    objects.iter().any(|object| is_own(object))
+}
+
+/// Appends the stack, slots before objects that aren't fixed, unless there is neither.
 pub fn push_stack(text: &mut Text, slots: &[SlotId], objects: &[Object]) -> Result<(), AllocError>
     ensures { OnOk result (text.new ≡ text.old ++ stack_text slots.now objects.now) }
 {
-    if slots.is_empty() && objects.is_empty() {
+    if slots.is_empty() && !has_own(objects) {
         return Ok(());
     }
     push_str(text, "stack:\n")?;

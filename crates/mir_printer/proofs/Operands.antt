@@ -1,10 +1,12 @@
 -- The operands that a text stands for.
-use Rattle.std.proofs.Common.{◌≡◌, ℕ, ℤ, zero, suc, pos, negsuc, ◌-◌, ◌^◌, ◌<◌, ◌≤◌, Bool, true, false, ◌&&◌, not, nat_eq, nat_lt, cond, List, [], ◌∷◌, ◌++◌}
+use Rattle.std.proofs.Common.{◌≡◌, ℕ, ℤ, zero, suc, pos, negsuc, ◌-◌, ◌^◌, ◌<◌, ◌≤◌, Bool, true, false, ◌&&◌, not, nat_eq, nat_lt, nat_le, cond, List, []}
+use Rattle.std.proofs.Common.{◌∷◌, ◌++◌}
 use Rattle.std.proofs.Common.{refl, sym, ap, ◌∙◌}
 use Rattle.std.proofs.Common.{append_assoc, arith}
 use Rattle.std.specs.Prelude.{codes, map}
 use Rattle.std.specs.Fmt.{decimal}
-use Rattle.std.proofs.lemmas.Bool.{ltb-false, ne_eqb}
+use Rattle.std.proofs.lemmas.Bool.{ltb-false, leb-true, ne_eqb}
+use Rattle.base_ids.specs.Limits.{FIXED}
 use Rattle.rv64_instr.specs.declared.operand.Operand.{Operand}
 use Rattle.rv64_instr.specs.declared.operand.Operand.TheVariants.{Def, Use, ImplicitDef, ImplicitUse, Imm, Slot, Object, Part, Outgoing, Block, Symbol, Mask}
 use Rattle.rv64_instr.specs.declared.operand.Operand.TheVariants.{GlobalRegisters}
@@ -50,6 +52,38 @@ pub register_one : (m n : ℕ) (r s : List ℕ) → IsNumber m → IsNumber n �
     (m ≡ n) × (r ≡ s)
 register_one m n r s small other stop stops e = register_cases (nat_lt m 32) (nat_lt n 32) m n r s refl refl small other stop stops e
 
+-- ---- stack objects
+
+abbrev object_by : Bool → ℕ → List ℕ
+object_by p n = cond p (codes "%fixed-stack." ++ decimal (n - FIXED)) (codes "%stack." ++ decimal n)
+
+near : (n : ℕ) → IsNumber n → n - FIXED < 2 ^ 64
+near n small = omega arith
+
+object_cases : (p q : Bool) (m n : ℕ) (r s : List ℕ) → nat_le FIXED m ≡ p → nat_le FIXED n ≡ q → IsNumber m → IsNumber n → Stops is_digit r →
+    Stops is_digit s → object_by p m ++ r ≡ object_by q n ++ s → (m ≡ n) × (r ≡ s)
+object_cases true true m n r s is others small other stop stops e =
+    let tails : decimal (m - FIXED) ++ r ≡ decimal (n - FIXED) ++ s = cc in
+    let found = decimal_one (m - FIXED) (n - FIXED) r s (near m small) (near n other) stop stops tails in
+    let same : m ≡ n = omega (arith, found.0, leb-true FIXED m is, leb-true FIXED n others) in
+    (same, found.1)
+object_cases true false m n r s is others small other stop stops e =
+    absurd (apart 102 115 (codes "ixed-stack." ++ (decimal (m - FIXED) ++ r)) (codes "tack." ++ (decimal n ++ s)) refl
+    (front_one (codes "%") (codes "fixed-stack." ++ (decimal (m - FIXED) ++ r)) (codes "stack." ++ (decimal n ++ s)) e))
+object_cases false true m n r s is others small other stop stops e =
+    absurd (apart 115 102 (codes "tack." ++ (decimal m ++ r)) (codes "ixed-stack." ++ (decimal (n - FIXED) ++ s)) refl
+    (front_one (codes "%") (codes "stack." ++ (decimal m ++ r)) (codes "fixed-stack." ++ (decimal (n - FIXED) ++ s)) e))
+object_cases false false m n r s is others small other stop stops e =
+    let tails : decimal m ++ r ≡ decimal n ++ s = cc in number_one m n r s small other stop stops tails
+
+-- the text of a slot with that of an object
+slot_cases : (q : Bool) (m n : ℕ) (r s : List ℕ) → IsNumber m → IsNumber n → Stops is_digit r → Stops is_digit s →
+    codes "%stack." ++ decimal m ++ r ≡ object_by q n ++ s → (m ≡ n) × (r ≡ s)
+slot_cases true m n r s small other stop stops e =
+    absurd (apart 115 102 (codes "tack." ++ (decimal m ++ r)) (codes "ixed-stack." ++ (decimal (n - FIXED) ++ s)) refl
+    (front_one (codes "%") (codes "stack." ++ (decimal m ++ r)) (codes "fixed-stack." ++ (decimal (n - FIXED) ++ s)) e))
+slot_cases false m n r s small other stop stops e = let tails : decimal m ++ r ≡ decimal n ++ s = cc in number_one m n r s small other stop stops tails
+
 -- ---- one operand
 
 -- what the first bytes of an operand's text say of it
@@ -67,7 +101,7 @@ data Lead : Type 0 where
 
 abbrev after_percent : List ℕ → Lead
 after_percent [] = at_register
-after_percent (b ∷ bs) = cond (nat_eq b 115) at_stack (cond (nat_eq b 98) at_block at_register)
+after_percent (b ∷ bs) = cond (nat_eq b 115) at_stack (cond (nat_eq b 102) at_stack (cond (nat_eq b 98) at_block at_register))
 
 abbrev lead : List ℕ → Lead
 lead [] = at_number
@@ -91,7 +125,7 @@ lead_of (Symbol name) = at_symbol
 lead_of Mask = at_mask
 
 digit_after : (b : ℕ) (bs : List ℕ) → 48 ≤ b → b ≤ 57 → after_percent (b ∷ bs) ≡ at_register
-digit_after b bs low high = rw (ne_eqb b 115 (λ e. omega arith), ne_eqb b 98 (λ e. omega arith)) refl
+digit_after b bs low high = rw (ne_eqb b 115 (λ e. omega arith), ne_eqb b 102 (λ e. omega arith), ne_eqb b 98 (λ e. omega arith)) refl
 
 number_lead : (b : ℕ) (bs : List ℕ) → 45 ≤ b → b ≤ 57 → lead (b ∷ bs) ≡ at_number
 number_lead b bs low high =
@@ -111,6 +145,10 @@ register_lead : (p : Bool) (n : ℕ) (r : List ℕ) → IsNumber n → lead (reg
 register_lead true n r small = refl
 register_lead false n r small = let is = decimal_head (n - 32) r (less n small) in ap after_percent is.2 ∙ digit_after is.0 is.1 is.3 is.4
 
+object_lead : (p : Bool) (n : ℕ) (r : List ℕ) → lead (object_by p n ++ r) ≡ at_stack
+object_lead true n r = refl
+object_lead false n r = refl
+
 -- an operand other than a definition
 abbrev pub IsUse : Operand → Type 0
 IsUse o = (is_definition o ≡ false) × HasNumbers o
@@ -119,6 +157,7 @@ lead_is : (o : Operand) (r : List ℕ) → IsUse o → lead (operand_text o ++ r
 lead_is (Def n) r is = let no : true ≡ false = is.0 in absurd cc
 lead_is (Use n) r is = register_lead (nat_lt n 32) n r is.1
 lead_is (Imm i) r is = let h = signed_head i r is.1 in ap lead h.2 ∙ number_lead h.0 h.1 h.3 h.4
+lead_is (Object n) r is = object_lead (nat_le FIXED n) n r
 lead_is (Part Upper y) r is = refl
 lead_is (Part Lower y) r is = refl
 lead_is _ r is = refl
@@ -147,11 +186,8 @@ implicits m n r s e =
     apart 45 32 (codes "def " ++ (register_text m ++ r)) (register_text n ++ s) refl
     (front_one (codes "implicit") (codes "-def " ++ (register_text m ++ r)) (codes " " ++ (register_text n ++ s)) e)
 
-stack_one : (m n : ℕ) (r s : List ℕ) → IsNumber m → IsNumber n → Follows r → Follows s →
-    codes "%stack." ++ decimal m ++ r ≡ codes "%stack." ++ decimal n ++ s → (Slot m ≡ Slot n) × (r ≡ s)
-stack_one m n r s small other follow follows e =
-    let tails : decimal m ++ r ≡ decimal n ++ s = cc in
-    let found = number_one m n r s small other follow.digits follows.digits tails in (ap Slot found.0, found.1)
+as_slots : {r s : List ℕ} (m n : ℕ) → (m ≡ n) × (r ≡ s) → (Slot m ≡ Slot n) × (r ≡ s)
+as_slots m n found = (ap Slot found.0, found.1)
 
 -- ---- halves of addresses
 
@@ -247,10 +283,14 @@ operand_one (ImplicitUse m) (ImplicitUse n) r s is others follow follows e =
     let found = register_one m n r s is.1 others.1 follow.digits follows.digits tails in (ap ImplicitUse found.0, found.1)
 operand_one (Imm i) (Imm j) r s is others follow follows e =
     let found = signed_one i j r s is.1 others.1 follow.digits follows.digits e in (ap Imm found.0, found.1)
-operand_one (Slot m) (Slot n) r s is others follow follows e = stack_one m n r s is.1 others.1 follow follows e
-operand_one (Object m) (Object n) r s is others follow follows e = stack_one m n r s is.1 others.1 follow follows e
-operand_one (Slot m) (Object n) r s is others follow follows e = stack_one m n r s is.1 others.1 follow follows e
-operand_one (Object m) (Slot n) r s is others follow follows e = stack_one m n r s is.1 others.1 follow follows e
+operand_one (Slot m) (Slot n) r s is others follow follows e =
+    let tails : decimal m ++ r ≡ decimal n ++ s = cc in as_slots m n (number_one m n r s is.1 others.1 follow.digits follows.digits tails)
+operand_one (Object m) (Object n) r s is others follow follows e =
+    as_slots m n (object_cases (nat_le FIXED m) (nat_le FIXED n) m n r s refl refl is.1 others.1 follow.digits follows.digits e)
+operand_one (Slot m) (Object n) r s is others follow follows e =
+    as_slots m n (slot_cases (nat_le FIXED n) m n r s is.1 others.1 follow.digits follows.digits e)
+operand_one (Object m) (Slot n) r s is others follow follows e =
+    let found = slot_cases (nat_le FIXED m) n m s r others.1 is.1 follows.digits follow.digits (sym e) in as_slots m n (sym found.0, sym found.1)
 operand_one (Block m) (Block n) r s is others follow follows e =
     let tails : decimal m ++ r ≡ decimal n ++ s = cc in
     let found = number_one m n r s is.1 others.1 follow.digits follows.digits tails in (ap Block found.0, found.1)
@@ -304,10 +344,15 @@ register_goes_on : (p : Bool) (n : ℕ) (r : List ℕ) → goes_on (44 ∷ 32 �
 register_goes_on true n r = refl
 register_goes_on false n r = refl
 
+object_goes_on : (p : Bool) (n : ℕ) (r : List ℕ) → goes_on (44 ∷ 32 ∷ (object_by p n ++ r)) ≡ true
+object_goes_on true n r = refl
+object_goes_on false n r = refl
+
 operand_goes_on : (o : Operand) (r : List ℕ) → IsUse o → goes_on (44 ∷ 32 ∷ (operand_text o ++ r)) ≡ true
 operand_goes_on (Def n) r is = register_goes_on (nat_lt n 32) n r
 operand_goes_on (Use n) r is = register_goes_on (nat_lt n 32) n r
 operand_goes_on (Imm i) r is = let h = signed_head i r is.1 in ap (λ (t : List ℕ). goes_on (44 ∷ 32 ∷ t)) h.2 ∙ number_goes_on h.0 h.1 h.3 h.4
+operand_goes_on (Object n) r is = object_goes_on (nat_le FIXED n) n r
 operand_goes_on (Part Upper y) r is = refl
 operand_goes_on (Part Lower y) r is = refl
 operand_goes_on _ r is = refl
@@ -320,10 +365,15 @@ register_no_colon : (p : Bool) (n : ℕ) (r : List ℕ) → begins_colon (regist
 register_no_colon true n r = refl
 register_no_colon false n r = refl
 
+object_no_colon : (p : Bool) (n : ℕ) (r : List ℕ) → begins_colon (object_by p n ++ r) ≡ false
+object_no_colon true n r = refl
+object_no_colon false n r = refl
+
 operand_no_colon : (o : Operand) (r : List ℕ) → IsUse o → begins_colon (operand_text o ++ r) ≡ false
 operand_no_colon (Def n) r is = register_no_colon (nat_lt n 32) n r
 operand_no_colon (Use n) r is = register_no_colon (nat_lt n 32) n r
 operand_no_colon (Imm i) r is = let h = signed_head i r is.1 in ap begins_colon h.2 ∙ number_no_colon h.0 h.1 h.3 h.4
+operand_no_colon (Object n) r is = object_no_colon (nat_le FIXED n) n r
 operand_no_colon (Part Upper y) r is = refl
 operand_no_colon (Part Lower y) r is = refl
 operand_no_colon _ r is = refl

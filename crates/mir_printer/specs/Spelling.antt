@@ -4,6 +4,7 @@ use Rattle.std.specs.Prelude.{[], ◌∷◌, ◌++◌, Option, Some}
 use Rattle.std.specs.Prelude.{None, codes, filter, map}
 use Rattle.std.specs.List.{flat_map, list_all}
 use Rattle.std.specs.Fmt.{decimal, signed_decimal}
+use Rattle.base_ids.specs.Limits.{FIXED}
 use Rattle.rv64_instr.specs.declared.op.Op.{Op}
 use Rattle.rv64_instr.specs.declared.operand.Operand.{Operand}
 use Rattle.rv64_instr.specs.declared.operand.Operand.TheVariants.{Def, Use, ImplicitDef, ImplicitUse, Imm, Slot as SlotOperand, Object, Part, Block, Symbol}
@@ -63,6 +64,10 @@ symbol_text name = 64 ∷ cond (not (is_empty name) && list_all is_bare name) na
 abbrev pub register_text : ℕ → List ℕ
 register_text r = cond (nat_lt r 32) (codes "$x" ++ decimal r) (codes "%" ++ decimal (r - 32))
 
+-- a stack object: `%stack.N`, or a fixed one `%fixed-stack.N`
+abbrev pub object_text : ℕ → List ℕ
+object_text n = cond (nat_le FIXED n) (codes "%fixed-stack." ++ decimal (n - FIXED)) (codes "%stack." ++ decimal n)
+
 -- the symbol of an address: a global, or a constant of the function's pool
 abbrev pub linked_symbol_text : Linked → List ℕ
 linked_symbol_text (Global name) = symbol_text name
@@ -83,7 +88,7 @@ half_text Lower = codes "target-flags(riscv-lo) "
 abbrev pub part_text : Half → LinkedAddress → List ℕ
 part_text half y = half_text half ++ (linked_symbol_text y.symbol ++ addend_text y.addend)
 
--- an operand; frame slots and stack objects both print as `%stack.N`, and a register mask as `mask`
+-- an operand; frame slots and stack objects that aren't fixed both print as `%stack.N`, and a register mask as `mask`
 abbrev pub operand_text : Operand → List ℕ
 operand_text (Def r) = register_text r
 operand_text (Use r) = register_text r
@@ -91,7 +96,7 @@ operand_text (ImplicitDef r) = codes "implicit-def " ++ register_text r
 operand_text (ImplicitUse r) = codes "implicit " ++ register_text r
 operand_text (Imm i) = signed_decimal i
 operand_text (SlotOperand n) = codes "%stack." ++ decimal n
-operand_text (Object n) = codes "%stack." ++ decimal n
+operand_text (Object n) = object_text n
 operand_text (Part half y) = part_text half y
 operand_text (Outgoing n) = codes "outgoing(" ++ (decimal n ++ codes ")")
 operand_text GlobalRegisters = codes "globals"

@@ -3,11 +3,12 @@
 ghost use Rattle.std.specs.Prelude.{◌≡◌, ◌++◌, OnOk, OnErr};
 ghost use Rattle.mir_printer.specs.Growth.{GrownFrom};
 ghost use Rattle.mir_printer.specs.Spelling.{addend_text, half_text, linked_symbol_text};
-ghost use Rattle.mir_printer.specs.Spelling.{operand_text, part_text, register_text};
+ghost use Rattle.mir_printer.specs.Spelling.{object_text, operand_text, part_text, register_text};
 
 use crate::symbol::push_symbol;
 use crate::text::{Text, push_numbered, push_signed, push_str};
-use base_ids::function_ids::SlotId;
+use base_ids::function_ids::{ObjectId, SlotId};
+use base_ids::limits::FIXED;
 use rv64_instr::operand::Operand;
 use rv64_instr::reg::Reg;
 use rv64_instr::symbol::{Half, LinkedAddress, Symbol};
@@ -24,13 +25,26 @@ pub(crate) fn push_operand(text: &mut Text, operand: &Operand) -> Result<(), All
         Operand::ImplicitUse(r) => push_implicit(text, "implicit ", *r),
         Operand::Imm(i) => push_signed(text, *i),
         Operand::Slot(n) => push_numbered(text, "%stack.", n.number()),
-        Operand::Object(n) => push_numbered(text, "%stack.", n.number()),
+        Operand::Object(n) => push_object(text, *n),
         Operand::Part(half, address) => push_part(text, *half, address),
         Operand::Outgoing(n) => push_outgoing(text, *n),
         Operand::GlobalRegisters => push_str(text, "globals"),
         Operand::Block(n) => push_numbered(text, "%bb.", n.number()),
         Operand::Symbol(name) => push_symbol(text, name.as_slice()),
         Operand::Mask => push_str(text, "mask"),
+    }
+}
+
+/// Appends a stack object, which may be a fixed one.
+fn push_object(text: &mut Text, object: ObjectId) -> Result<(), AllocError>
+    ensures ok { OnOk result (text.new ≡ text.old ++ object_text object) }
+    ensures err { OnErr result (GrownFrom text.old text.new) }
+{
+    let n = object.number();
+    if FIXED <= n {
+        push_numbered(text, "%fixed-stack.", n - FIXED)
+    } else {
+        push_numbered(text, "%stack.", n)
     }
 }
 

@@ -12,6 +12,7 @@ pub use read_declarations::mir_substitution_crate as mir_substitution_crate;
 pub mod body;
 pub mod closing;
 pub mod first_use_order;
+pub mod fixed_objects;
 pub mod limits;
 pub mod stack_entry_kind;
 pub mod variables;

@@ -1,7 +1,8 @@
--- The numbers of stack entries, found by a set.
+-- The numbers of stack entries and of fixed objects, found by a set.
 use Rattle.std.proofs.Common.{Ordering, Less, Equal, Greater, ◌≡◌, ℕ, ◌<◌, Bool, true, false, ◌||◌, cond, eqb, List, [], ◌∷◌}
 use Rattle.std.proofs.Common.{◌++◌, Result, Ok, Err, refl, sym, ap, ◌∙◌, arith}
 use Rattle.std.specs.Prelude.{OnOk}
+use Rattle.std.specs.List.{list_any}
 use Rattle.std.specs.Ordering.{nat_cmp, is_eq, MatchOrdering}
 use Rattle.std.specs.BTreeSet.{BTreeSet, contains, Updates}
 use Rattle.std.proofs.lemmas.Bool.{ne_eqb, eq-eqb}
@@ -9,6 +10,7 @@ use Rattle.std.proofs.lemmas.Cmp.{ranked}
 use Rattle.std.proofs.lemmas.List.Folds.{list_any-append}
 use Rattle.read_declarations.specs.declared.stack.StackEntry.{StackEntry}
 use Rattle.read_declarations.specs.Stack.{has_id, AreIds}
+use Rattle.read_declarations.specs.Constants.{AreNumbers}
 
 pub by_order : (k q : ℕ) (o : Ordering) → MatchOrdering o (k < q) (k ≡ q) (q < k) → is_eq o ≡ eqb q k
 by_order k q Less lt = sym (ne_eqb q k (λ e. omega (arith, lt, e)))
@@ -37,3 +39,13 @@ ids_more ids new es more e k are updates is longer = λ q.
 pub on_ok : {A E : Type 0} (r : Result A E) (P Q : Type 0) → (P → Q) → OnOk r P → OnOk r Q
 on_ok (Ok x) P Q f h = f h
 on_ok (Err e) P Q f h = h
+
+-- a set of numbers with one more
+pub numbers_more : (set new : BTreeSet ℕ) (ns more : List ℕ) (k : ℕ) → AreNumbers set ns → Updates nat_cmp set new k true → more ≡ ns ++ k ∷ [] →
+    AreNumbers new more
+numbers_more set new ns more k are updates longer = λ q.
+    updates.0 q
+    ∙ ap (λ (b : Bool). cond b true (contains nat_cmp set q)) (same_key k q)
+    ∙ ap (λ (a : Bool). cond (eqb q k) true a) (are q)
+    ∙ either (list_any (eqb q) ns) (eqb q k)
+    ∙ sym (ap (λ (l : List ℕ). list_any (eqb q) l) longer ∙ list_any-append (eqb q) ns (k ∷ []))

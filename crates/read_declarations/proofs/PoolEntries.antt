@@ -15,6 +15,9 @@ use Rattle.read_declarations.specs.declared.constants.PoolRead.{PoolRead}
 use Rattle.read_declarations.specs.declared.declarations.Declarations.{Declarations}
 use Rattle.read_declarations.specs.Constants.{within, behind_line, pool_behind, constants_in, pool_of}
 use Rattle.read_declarations.specs.Declarations.{refusal_of, declared_of, checked, declarations_of}
+use Rattle.read_declarations.specs.Fixed.{fixed_of}
+use Rattle.read_declarations.specs.Stack.{stack_of}
+use Rattle.mir_substitution.specs.mir_func.Limits.{MAX_SLOTS}
 
 -- ---- digits
 
@@ -98,3 +101,13 @@ plain_pool doc d read plain = by (refusal_of doc) read where
   by None e =
       let same : declared_of doc ≡ d = cc in
       ap (λ (x : Declarations). x.pool) (sym same) ∙ ap (λ (b : Bool). (pool_of b doc.constants).constants) plain
+
+-- nor fixed objects
+pub plain_fixed : (doc : FunctionDocument) (d : Declarations) → declarations_of doc ≡ Ok d → doc.linked ≡ false → d.fixed ≡ []
+plain_fixed doc d read plain = by (refusal_of doc) read where
+  by : (refused : Option Refusal) → checked refused (declared_of doc) ≡ Ok d → d.fixed ≡ []
+  by (Some r) e = absurd cc
+  by None e =
+      let same : declared_of doc ≡ d = cc in
+      ap (λ (x : Declarations). x.fixed) (sym same)
+      ∙ ap (λ (b : Bool). (fixed_of b (MAX_SLOTS - length (stack_of doc.stack).entries) doc.fixed).entries) plain

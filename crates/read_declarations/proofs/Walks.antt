@@ -13,7 +13,9 @@ use Rattle.read_lexer.specs.declared.parts.Token.{Token}
 use Rattle.read_declarations.specs.Name.{is_single_at, are_single}
 use Rattle.read_declarations.specs.declared.entry.MappingEntry.{MappingEntry}
 use Rattle.read_declarations.specs.declared.stack.StackRead.{StackRead}
+use Rattle.read_declarations.specs.declared.fixed.FixedRead.{FixedRead}
 use Rattle.read_declarations.specs.declared.substitutions.SubstitutionsRead.{SubstitutionsRead}
+use Rattle.read_declarations.specs.Fixed.{fixed_entry_of, fixed_judged, fixed_behind, fixed_read}
 use Rattle.read_declarations.specs.Stack.{stack_entry_of, judged, stack_behind, stack_read}
 use Rattle.read_declarations.specs.Substitutions.{substitution_of, substituted, substitutions_behind, substitutions_of}
 
@@ -75,6 +77,19 @@ module _ (lines : List Line) (es : List MappingEntry) (i : ℕ) (here : MappingE
   pub stack_whole : (read : StackRead) → length es ≤ i → stack_behind lines read (drop i es) ≡ stack_read lines → read ≡ stack_read lines
   unfolding stack_behind
   stack_whole read all so_far = ap (stack_behind lines read) (sym (drop_all i es all)) ∙ so_far
+
+  pub fixed_more : (room : ℕ) (read next : FixedRead) → i < length es → here ≡ get_or es i here →
+      fixed_behind room lines read (drop i es) ≡ fixed_read room lines → next ≡ fixed_judged room read here.line (fixed_entry_of lines here.fields) →
+      fixed_behind room lines next (drop (i + 1) es) ≡ fixed_read room lines
+  unfolding fixed_behind
+  fixed_more room read next lt is so_far more =
+      let parts : drop i es ≡ here ∷ drop (i + 1) es = drop_more es i here lt ∙ ap (λ (x : MappingEntry). x ∷ drop (i + 1) es) (sym is) in
+      ap (λ (r : FixedRead). fixed_behind room lines r (drop (i + 1) es)) more ∙ ap (fixed_behind room lines read) (sym parts) ∙ so_far
+
+  pub fixed_whole : (room : ℕ) (read : FixedRead) → length es ≤ i → fixed_behind room lines read (drop i es) ≡ fixed_read room lines →
+      read ≡ fixed_read room lines
+  unfolding fixed_behind
+  fixed_whole room read all so_far = ap (fixed_behind room lines read) (sym (drop_all i es all)) ∙ so_far
 
   pub substitutions_more : (read next : SubstitutionsRead) → i < length es → here ≡ get_or es i here →
       substitutions_behind lines read (drop i es) ≡ substitutions_of lines

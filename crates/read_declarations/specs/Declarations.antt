@@ -1,41 +1,36 @@
--- The declarations of a function's document: its name, its stack entries, its debug value substitutions, its constants and what it exposes.
-use Rattle.std.specs.Prelude.{◌≡◌, List, [], ◌∷◌, Option, Some, None, Result, Ok, Err}
+-- The declarations of a function's document: its name, its stack entries, its fixed objects, its debug value substitutions, its constants and what it exposes.
+use Rattle.std.specs.Prelude.{◌≡◌, ◌-◌, length, Option, Some, None, Result, Ok, Err}
 use Rattle.read_documents.specs.declared.parts.FunctionDocument.{FunctionDocument}
-use Rattle.read_lexer.specs.declared.line.Line.{Line}
 use Rattle.read_refusal.specs.declared.first.Refusal.{Refusal}
-use Rattle.read_refusal.specs.declared.kind.RefusalKind.TheVariants.{StackObject}
 use Rattle.read_refusal.specs.First.{earlier}
 use Rattle.read_declarations.specs.declared.declarations.Declarations.{Declarations}
 use Rattle.read_declarations.specs.declared.declarations.DeclarationError.{DeclarationError}
 use Rattle.read_declarations.specs.declared.declarations.DeclarationError.TheVariants as errors
-use Rattle.read_declarations.specs.declared.entry.MappingEntry.{MappingEntry}
-use Rattle.read_declarations.specs.List.{list_of}
+use Rattle.read_declarations.specs.declared.fixed.FixedRead.{FixedRead}
 use Rattle.read_declarations.specs.Name.{name_of}
 use Rattle.read_declarations.specs.Stack.{stack_of}
+use Rattle.read_declarations.specs.Fixed.{fixed_of}
+use Rattle.mir_substitution.specs.mir_func.Limits.{MAX_SLOTS}
 use Rattle.read_declarations.specs.Substitutions.{substitutions_of}
 use Rattle.read_declarations.specs.Constants.{pool_of}
 use Rattle.read_declarations.specs.Exposure.{exposure_of}
 
--- No entry of `fixedStack` is supported: the first one is refused as a stack object. The result is the earlier of that and `refused`.
-abbrev pub fixed_entries : Option Refusal → List MappingEntry → Option Refusal
-fixed_entries refused [] = refused
-fixed_entries refused (e ∷ es) = earlier refused (Some (record { line = e.line; kind = StackObject }))
-
--- the first refusal in the lines of `fixedStack`
-abbrev pub fixed_refusal : List Line → Option Refusal
-fixed_refusal lines = fixed_entries (list_of lines).refused (list_of lines).entries
+-- the fixed objects that a document declares, and the first refusal: there is room for as many as its stack entries leave
+abbrev pub fixed_in : FunctionDocument → FixedRead
+fixed_in doc = fixed_of doc.linked (MAX_SLOTS - length (stack_of doc.stack).entries) doc.fixed
 
 -- the first refusal among the lines that declare something
 abbrev pub refusal_of : FunctionDocument → Option Refusal
 refusal_of doc =
     earlier (earlier (earlier (name_of doc.name).refused (stack_of doc.stack).refused)
-    (earlier (fixed_refusal doc.fixed) (substitutions_of doc.substitutions).refused)) (pool_of doc.linked doc.constants).refused
+    (earlier (fixed_in doc).refused (substitutions_of doc.substitutions).refused)) (pool_of doc.linked doc.constants).refused
 
 -- the declarations, which count only if nothing is refused
 abbrev pub declared_of : FunctionDocument → Declarations
 declared_of doc = record {
   name = (name_of doc.name).name;
   stack = (stack_of doc.stack).entries;
+  fixed = (fixed_in doc).entries;
   substitutions = (substitutions_of doc.substitutions).entries;
   pool = (pool_of doc.linked doc.constants).constants;
   exposure = exposure_of doc.linked doc.twice;

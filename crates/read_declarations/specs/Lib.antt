@@ -3,6 +3,7 @@ pub mod FlowMapping
 pub mod List
 pub mod Field
 pub mod Stack
+pub mod Fixed
 pub mod Substitutions
 pub mod Constants
 pub mod Name

@@ -54,9 +54,13 @@ has_id entries id = list_any (λ e. id == e.id) entries
 abbrev pub AreIds : BTreeSet ℕ → List StackEntry → Type 0
 AreIds ids entries = (q : ℕ) → contains nat_cmp ids q ≡ has_id entries q
 
--- why an entry can't be added to `count` others: its number is taken, or the limit is reached
+-- why an entry can't be added to `count` others where there is room for so many: its number is taken, or there is no room
+abbrev pub clash_in : (room : ℕ) → Bool → (count : ℕ) → Option RefusalKind
+clash_in room is_there count = if is_there then Some StackObject else (if nat_le room count then Some TooMany else None)
+
+-- the same within the limit of slots and objects
 abbrev pub clash : Bool → ℕ → Option RefusalKind
-clash is_there count = if is_there then Some StackObject else (if nat_le MAX_SLOTS count then Some TooMany else None)
+clash is_there count = clash_in MAX_SLOTS is_there count
 
 -- the refusal of a line, if there is a cause
 abbrev pub refusal_at : ℕ → Option RefusalKind → Option Refusal

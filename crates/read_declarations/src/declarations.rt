@@ -1,23 +1,22 @@
 //! The declarations of a function's document.
 
 ghost use Rattle.std.specs.Prelude.{◌≡◌, IfOk};
-ghost use Rattle.read_declarations.specs.Declarations.{Gives, fixed_refusal, checked, declarations_of};
+ghost use Rattle.read_declarations.specs.Declarations.{Gives, checked, declarations_of};
 ghost use Rattle.read_declarations.specs.declared.declarations.DeclarationError.TheVariants.{Memory};
 
 use crate::constants::pool;
 use crate::exposure::exposure;
-use crate::list::list;
+use crate::fixed::{FixedEntries, fixed};
 use crate::name::name;
 use crate::stack::{StackEntries, stack};
 use crate::substitutions::substitutions;
 use mir_exposure::exposure::Exposure;
 use mir_pool::constant::Pool;
+use mir_substitution::mir_func_crate::limits::MAX_SLOTS;
 use mir_substitution::substitutions::Substitutions;
 use read_documents::parts::FunctionDocument;
-use read_lexer::line::Line;
 use read_metadata::rv64_instr_crate::name::Name;
 use read_refusal::first::{Refusal, earlier};
-use read_refusal::kind::RefusalKind;
 use std::alloc::{AllocError, Global};
 use thiserror::Error;
 
@@ -28,6 +27,9 @@ pub struct Declarations {
     pub name: Name,
     /// The entries of its stack frame, in declared order. No two have the same number.
     pub stack: StackEntries,
+    /// The fixed objects of its stack frame, in declared order: none but in the linked language. No two have the same
+    /// number.
+    pub fixed: FixedEntries,
     /// The substitutions of its debug instruction numbers, in order.
     pub substitutions: Substitutions,
     /// The constants of its pool (LLVM: `MachineConstantPool`), in declared order. No two have the same number.
@@ -55,23 +57,6 @@ impl From<AllocError> for DeclarationError {
     }
 }
 
-/// The first refusal in the lines of `fixedStack`, of which no entry is supported.
-fn fixed_refusal(alloc: Global, lines: &[Line]) -> Result<Option<Refusal>, AllocError>
-    ensures { IfOk result (λ refused. refused ≡ fixed_refusal lines.now) }
-{
-    let listing = list(alloc, lines)?;
-    match listing.entries.as_slice() {
-        [first, ..] => {
-            let fault = Refusal {
-                line: first.line,
-                kind: RefusalKind::StackObject,
-            };
-            Ok(earlier(listing.refused, Some(fault)))
-        }
-        [] => Ok(listing.refused),
-    }
-}
-
 /// The declarations, unless there is a refusal.
 fn checked(
     refused: Option<Refusal>,
@@ -95,14 +80,15 @@ pub fn read_declarations(
 {
     let name = name(alloc, document.name.as_slice())?;
     let stack = stack(alloc, document.stack.as_slice())?;
-    let fixed = fixed_refusal(alloc, document.fixed.as_slice())?;
+    let room = MAX_SLOTS.saturating_sub(stack.entries.len());
+    let fixed = fixed(alloc, document.linked, room, document.fixed.as_slice())?;
     let substitutions = substitutions(alloc, document.substitutions.as_slice())?;
     let pool = pool(alloc, document.linked, document.constants.as_slice())?;
     let exposure = exposure(alloc, document.linked, document.twice.as_slice())?;
     let refused = earlier(
         earlier(
             earlier(name.refused, stack.refused),
-            earlier(fixed, substitutions.refused),
+            earlier(fixed.refused, substitutions.refused),
         ),
         pool.refused,
     );
@@ -111,6 +97,7 @@ pub fn read_declarations(
         Declarations {
             name: name.name,
             stack: stack.entries,
+            fixed: fixed.entries,
             substitutions: substitutions.entries,
             pool: pool.constants,
             exposure,

@@ -16,6 +16,7 @@ pub mod declarations;
 mod entry;
 pub mod exposure;
 mod field;
+pub mod fixed;
 mod list;
 mod name;
 pub mod stack;

@@ -5,7 +5,7 @@ ghost use Rattle.mir_substitution.specs.mir_func.Objects.{local_count};
 ghost use Rattle.read_declarations.specs.Stack.{
   is_alignment,
   stack_entry_of,
-  clash,
+  clash_in,
   unsized,
   entry_with,
   refusal_at,
@@ -113,13 +113,14 @@ fn stack_entry(lines: &[Line], fields: &[MappingField]) -> Result<StackEntry, Re
     entry_with(is_variable, id, size, align, local_offset)
 }
 
-/// Why an entry can't be added to `count` others: its number is taken, or the limit is reached.
-fn clash(is_there: bool, count: usize) -> Option<RefusalKind>
-    ensures { result ≡ clash is_there count }
+/// Why an entry can't be added to `count` others where there is room for so many: its number is taken, or there is no
+/// room.
+pub(crate) fn clash_in(room: usize, is_there: bool, count: usize) -> Option<RefusalKind>
+    ensures { result ≡ clash_in room is_there count }
 {
     if is_there {
         Some(RefusalKind::StackObject)
-    } else if MAX_SLOTS <= count {
+    } else if room <= count {
         Some(RefusalKind::TooMany)
     } else {
         None
@@ -127,7 +128,7 @@ fn clash(is_there: bool, count: usize) -> Option<RefusalKind>
 }
 
 /// The refusal of a line, if there is a cause.
-fn refusal_at(line: u32, cause: Option<RefusalKind>) -> Option<Refusal>
+pub(crate) fn refusal_at(line: u32, cause: Option<RefusalKind>) -> Option<Refusal>
     ensures { result ≡ refusal_at line cause }
 {
     match cause {
@@ -154,7 +155,7 @@ fn judge(
         }
         Ok(entry) => {
             let is_new = ids.insert(entry.id.number())?;
-            let cause = clash(!is_new, read.entries.len());
+            let cause = clash_in(MAX_SLOTS, !is_new, read.entries.len());
             read.refused = earlier(read.refused, refusal_at(line, cause));
             read.entries.push(entry)
         }

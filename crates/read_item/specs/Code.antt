@@ -1,7 +1,8 @@
 -- The instruction that a line of code is, or why the line is refused.
 use Rattle.std.specs.Prelude.{ℕ, ℤ, ◌+◌, Bool, true, false, not, ◌&&◌, ◌||◌, nat_eq, nat_lt, if◌then◌else◌, length, List, [], ◌∷◌, ◌++◌, pos, Option, Some}
-use Rattle.std.specs.Prelude.{None, is_none, drop, unwrap_or, Result, Ok, Err}
+use Rattle.std.specs.Prelude.{None, is_none, min, unwrap_or, Result, Ok, Err}
 use Rattle.std.specs.List.{list_any, zip}
+use Rattle.base_ids.specs.Limits.{MAX_NUMBER, FIXED}
 use Rattle.read_refusal.specs.declared.kind.RefusalKind.{RefusalKind}
 use Rattle.read_refusal.specs.declared.kind.RefusalKind.TheVariants as kinds
 use Rattle.rv64_instr.specs.declared.op.Op.{Op}
@@ -94,6 +95,16 @@ stack_operand place.Object n = Some (operand.Object n)
 stack_operand place.Slot n = Some (operand.Slot n)
 stack_operand p n = stand_in p
 
+-- the number of `%fixed-stack.N`. Above the limit of N it is that of the limit, since the line is refused
+abbrev pub fixed_number : ℕ → ℕ
+fixed_number n = FIXED + min n MAX_NUMBER
+
+-- `%fixed-stack.N` at an operand position: it is a stack object wherever an address may stand
+abbrev pub fixed_operand : OperandKind → ℕ → Option Operand
+fixed_operand place.Object n = Some (operand.Object (fixed_number n))
+fixed_operand place.Slot n = Some (operand.Object (fixed_number n))
+fixed_operand p n = stand_in p
+
 -- an immediate, if the integer fits 64 bits signed
 abbrev pub number_operand : Option ℤ → Option Operand
 number_operand None = None
@@ -109,7 +120,7 @@ abbrev pub operand_at : OperandKind → OperandForm → Option Operand
 operand_at p (form.Register r) = used r.flag (number_of r.flag r.name)
 operand_at p (form.Integer i) = number_operand i
 operand_at p (form.Slot n) = stack_operand p n
-operand_at p (form.Fixed n) = stand_in p
+operand_at p (form.Fixed n) = fixed_operand p n
 operand_at p (form.Part half a) = half_operand half a.symbol a.addend
 operand_at p (form.Address a) = None
 operand_at p form.Literal = None
@@ -257,46 +268,30 @@ abbrev pub is_pointer_operand : OperandForm → Bool
 is_pointer_operand (form.Register r) = is_pointer r
 is_pointer_operand _ = false
 
--- whether an operand is `%stack.N`, a spill slot or a stack object
+-- whether an operand is `%stack.N`, a spill slot or a stack object, or `%fixed-stack.N`
 abbrev pub is_stack : OperandForm → Bool
 is_stack (form.Slot n) = true
+is_stack (form.Fixed n) = true
 is_stack _ = false
 
--- whether a position is one of an address, where `%stack.N` is allowed
+-- whether a position is one of an address, where these are allowed
 abbrev pub is_address : OperandKind → Bool
 is_address place.Object = true
 is_address place.Slot = true
 is_address _ = false
 
--- whether an operand is a fixed stack object, which no position takes
-abbrev pub is_fixed : OperandForm → Bool
-is_fixed (form.Fixed n) = true
-is_fixed _ = false
-
--- whether an operand is `%stack.N` at a position that takes none, or a fixed stack object
+-- whether an operand is one of them at a position that takes none
 abbrev pub is_misplaced : OperandKind × OperandForm → Bool
-is_misplaced at = (is_stack at.1 && not (is_address at.0)) || is_fixed at.1
+is_misplaced at = is_stack at.1 && not (is_address at.0)
 
 -- whether the line has too many operands
 abbrev pub is_long : ItemForm → Bool
 is_long line = nat_lt MAX_OPERANDS (length line.definitions + length line.operands)
 
--- whether the first of two operands is a fixed stack object, and the second a half of an address
-abbrev pub is_half_of_fixed : OperandForm × OperandForm → Bool
-is_half_of_fixed (form.Fixed n, form.Part half a) = true
-is_half_of_fixed _ = false
-
--- whether a half of an address stands right behind a fixed stack object, where code has a number
-abbrev pub has_half_of_fixed : List OperandForm → Bool
-has_half_of_fixed operands = list_any is_half_of_fixed (zip operands (drop 1 operands))
-
 -- the checks of a line of code
 abbrev pub code_rules : Op → ItemForm → List Rule
 code_rules op line =
-    record {
-      broken = not (fits op (operands_of op line)) || (line.exceeds || has_half_of_fixed line.operands);
-      refusal = kinds.BadOperands;
-    } ∷
+    record { broken = not (fits op (operands_of op line)) || line.exceeds; refusal = kinds.BadOperands } ∷
     record { broken = names_refused op line; refusal = kinds.VirtualRegister } ∷
     record { broken = list_any is_pointer line.definitions || list_any is_pointer_operand line.operands; refusal = kinds.StackPointerUse } ∷
     record { broken = list_any is_misplaced (zip (places_of op line) line.operands); refusal = kinds.StackObject } ∷

@@ -1,5 +1,5 @@
 -- The item that a line is, or why the line is refused.
-use Rattle.std.specs.Prelude.{ℕ, pos, ◌+◌, min, Bool, true, false, ◌&&◌, is_none, if◌then◌else◌, List, [], ◌∷◌, Option, Some, None, Result, Ok, Err}
+use Rattle.std.specs.Prelude.{ℕ, pos, Bool, true, false, ◌&&◌, is_none, if◌then◌else◌, List, [], ◌∷◌, Option, Some, None, Result, Ok, Err}
 use Rattle.std.specs.Ordering.{int_eq}
 use Rattle.std.specs.List.{filter_map}
 use Rattle.read_refusal.specs.declared.kind.RefusalKind.{RefusalKind}
@@ -15,21 +15,15 @@ use Rattle.read_item.specs.declared.judged.Judged.{Judged}
 use Rattle.read_item.specs.declared.judged.Judged.TheVariants.{Passed, Item, Two}
 use Rattle.read_item.specs.declared.opcode.Opcode.{Opcode}
 use Rattle.read_item.specs.declared.opcode.Opcode.TheVariants as opcodes
-use Rattle.base_ids.specs.Limits.{MAX_NUMBER}
 use Rattle.read_item.specs.Opcode.{opcode_of, returning}
 use Rattle.read_item.specs.Address.{address_of}
-use Rattle.read_item.specs.Code.{code_of}
+use Rattle.read_item.specs.Code.{fixed_number, code_of}
 use Rattle.read_item.specs.Debug.{debug_of, is_empty}
-
--- Stack entries and fixed stack objects have numbers below 2^30 each; a line with a number above is refused. Among what a line names they have one numbering:
--- N for `%stack.N`, and for `%fixed-stack.N` N above this
-abbrev pub FIXED : ℕ
-FIXED = 2147483648
 
 -- the number of a stack entry or of a fixed stack object
 abbrev pub entry_of : OperandForm → Option ℕ
 entry_of (form.Slot n) = Some n
-entry_of (form.Fixed n) = Some (FIXED + min n MAX_NUMBER)
+entry_of (form.Fixed n) = Some (fixed_number n)
 entry_of _ = None
 
 -- the numbers of what a line names, in order

@@ -1,6 +1,6 @@
 //! The instruction that a line of code is.
 
-ghost use Rattle.std.specs.Prelude.{◌≡◌, ◌&&◌, ◌||◌, drop, IfOk, Ok, Err};
+ghost use Rattle.std.specs.Prelude.{◌≡◌, ◌&&◌, ◌||◌, IfOk, Ok, Err};
 ghost use Rattle.std.specs.List.{list_any, zip};
 ghost use Rattle.read_refusal.specs.declared.kind.RefusalKind.{RefusalKind};
 ghost use Rattle.read_item.specs.declared.judged.JudgeError.TheVariants.{Refused};
@@ -15,9 +15,6 @@ ghost use Rattle.read_item.specs.Code.{
   is_pointer_operand,
   is_misplaced,
   is_stack,
-  is_fixed,
-  is_half_of_fixed,
-  has_half_of_fixed,
   is_long,
   places_of,
   code_of,
@@ -147,21 +144,20 @@ pub fn names_pointer(line: &ItemForm) -> bool
     set || used
 }
 
-/// Whether an operand is `%stack.N` at a position that takes none, or a fixed stack object.
+/// Whether an operand is `%stack.N` or `%fixed-stack.N` at a position that takes none.
 fn is_misplaced(place: OperandKind, form: &OperandForm) -> bool
     ensures { result ≡ is_misplaced (place, form.now) }
 {
     match form {
-        OperandForm::Slot(_) => match place {
+        OperandForm::Slot(_) | OperandForm::Fixed(_) => match place {
             OperandKind::Object | OperandKind::Slot => false,
             _ => true,
         },
-        OperandForm::Fixed(_) => true,
         _ => false,
     }
 }
 
-/// Whether a line has a `%stack.N` at a position that takes none.
+/// Whether a line has a `%stack.N` or `%fixed-stack.N` at a position that takes none.
 fn misplaces_stack(op: Op, line: &ItemForm) -> bool
     ensures { result ≡ list_any is_misplaced (zip (places_of op line.now) line.now.operands) }
 {
@@ -169,36 +165,6 @@ fn misplaces_stack(op: Op, line: &ItemForm) -> bool
         .iter()
         .zip(line.operands.as_slice())
         .any(|(place, form)| is_misplaced(*place, form))
-}
-
-/// Whether the first of two operands is a fixed stack object, and the second a half of an address.
-fn is_half_of_fixed(first: &OperandForm, second: &OperandForm) -> bool
-    ensures { result ≡ is_half_of_fixed (first.now, second.now) }
-{
-    match (first, second) {
-        (OperandForm::Fixed(_), OperandForm::Part(_, _)) => true,
-        _ => false,
-    }
-}
-
-/// The operands behind the first.
-fn behind_first(forms: &[OperandForm]) -> &[OperandForm]
-    ensures { result.now ≡ drop 1 forms.now }
-{
-    match forms {
-        [_, rest @ ..] => rest,
-        [] => forms,
-    }
-}
-
-/// Whether a half of an address stands right behind a fixed stack object, where code has a number.
-fn has_half_of_fixed(forms: &[OperandForm]) -> bool
-    ensures { result ≡ has_half_of_fixed forms.now }
-{
-    forms
-        .iter()
-        .zip(behind_first(forms))
-        .any(|(first, second)| is_half_of_fixed(first, second))
 }
 
 /// Whether a line has too many operands.
@@ -211,8 +177,8 @@ pub fn is_long(line: &ItemForm) -> bool
 
 /// The instruction that a line of code is. It is refused with the first of these that holds: `BadOperands` if the
 /// operands don't have the form of the opcode or a number is above its limit, `VirtualRegister` for an implicit virtual
-/// register or one after `%4095`, `StackPointerUse`, `StackObject` for a `%stack.N` at a position that takes none,
-/// `TooMany` for more than 64 operands.
+/// register or one after `%4095`, `StackPointerUse`, `StackObject` for a `%stack.N` or `%fixed-stack.N` at a position
+/// that takes none, `TooMany` for more than 64 operands.
 #[tactic(auto, unfolding(crate::specs::Code::code_of))]
 pub fn code_of(alloc: Global, op: Op, line: &ItemForm) -> Result<Instr, JudgeError>
     ensures ok { IfOk result (λ instr. code_of op line.now ≡ Ok instr) }
@@ -224,7 +190,7 @@ pub fn code_of(alloc: Global, op: Op, line: &ItemForm) -> Result<Instr, JudgeErr
     let Some(instr) = Instr::new(op, operands) else {
         return Err(JudgeError::Refused(RefusalKind::BadOperands));
     };
-    if line.exceeds || has_half_of_fixed(line.operands.as_slice()) {
+    if line.exceeds {
         return Err(JudgeError::Refused(RefusalKind::BadOperands));
     }
     if names_refused_register(line) || names_virtual_callee(op, line) {

@@ -25,8 +25,8 @@ use crate::code::code_of;
 use crate::debug::debug_of;
 use crate::judged::{BoxedItem, JudgeError, Judged, JudgedItem, StackIds};
 use crate::opcode::{DebugOpcode, Opcode, opcode_of, returning};
+use crate::operand::fixed_number;
 use base_ids::function_ids::SlotId;
-use base_ids::limits::MAX_NUMBER;
 use read_line::form::{ItemForm, OperandForm};
 use read_line::mir_func_crate::item::ItemKind;
 use read_line::read_metadata_crate::metadata::Metadata;
@@ -34,16 +34,13 @@ use read_refusal::kind::RefusalKind;
 use rv64_instr::op::Op;
 use std::alloc::{AllocError, Global};
 
-/// What is added to the number of a fixed stack object, among what a line names.
-pub const FIXED: u32 = 1 << 31;
-
 /// The number of a stack entry or of a fixed stack object.
 fn entry_of(form: &OperandForm) -> Option<SlotId>
     ensures { result ≡ entry_of form.now }
 {
     match form {
         OperandForm::Slot(entry) => Some(*entry),
-        OperandForm::Fixed(n) => Some(SlotId(FIXED + (*n).min(MAX_NUMBER))),
+        OperandForm::Fixed(n) => Some(SlotId(fixed_number(*n).number())),
         _ => None,
     }
 }
@@ -174,8 +171,8 @@ fn has_call_frame(linked: bool, line: &ItemForm) -> bool
 
 /// The item that a line is. `Refused` is exactly for a line that fails a check, with the lowest number of its
 /// refusals: an unknown opcode, operands that don't fit the opcode, a virtual register, the stack pointer, a
-/// `%stack.N` at a position that takes none, or more than 64 operands. `Memory` is for want of memory. `linked` is
-/// whether the opcodes of the linked language are read.
+/// `%stack.N` or `%fixed-stack.N` at a position that takes none, or more than 64 operands. `Memory` is for want of
+/// memory. `linked` is whether the opcodes of the linked language are read.
 #[tactic(auto, unfolding(crate::specs::Judge::judged))]
 pub fn judge(
     alloc: Global,

@@ -9,6 +9,8 @@ ghost use Rattle.read_item.specs.Code.{
   named,
   stand_in,
   stack_operand,
+  fixed_number,
+  fixed_operand,
   half_operand,
   operand_at,
   called,
@@ -30,6 +32,7 @@ ghost use Rattle.read_item.specs.Code.{
 
 use crate::place::{ADDRESS, OperandKind, behind, front, places};
 use base_ids::function_ids::{BlockId, ObjectId, SlotId};
+use base_ids::limits::{FIXED, MAX_NUMBER};
 use read_line::form::{AddressForm, ItemForm, OperandForm, RegisterForm};
 use read_line::read_token_crate::lexeme::{Flag, RegisterName};
 use rv64_instr::arithmetic::{load_width, store_width};
@@ -115,6 +118,28 @@ fn stack_operand(alloc: Global, place: OperandKind, entry: SlotId) -> Option<Ope
     }
 }
 
+/// The number of `%fixed-stack.N`; above the limit of N, that of the limit.
+pub fn fixed_number(n: u32) -> ObjectId
+    ensures { result ≡ fixed_number n }
+{
+    ObjectId(FIXED + n.min(MAX_NUMBER))
+}
+
+/// `%fixed-stack.N` at an operand position; at one that takes none, an operand that fits.
+fn fixed_operand(alloc: Global, place: OperandKind, n: u32) -> Option<Operand>
+    ensures { result ≡ fixed_operand place n }
+{
+    match place {
+        OperandKind::Object | OperandKind::Slot => Some(Operand::Object(fixed_number(n))),
+        OperandKind::Register
+        | OperandKind::Number
+        | OperandKind::Block
+        | OperandKind::Symbol
+        | OperandKind::Mask
+        | OperandKind::Implicit => stand_in(alloc, place),
+    }
+}
+
 /// A half of an address, if what is added fits 32 bits signed.
 fn half_operand(half: Half, address: &AddressForm) -> Result<Option<Operand>, AllocError>
     ensures { IfOk result (λ operand. operand ≡ half_operand half address.now.symbol address.now.addend) }
@@ -143,7 +168,7 @@ fn operand_at(
         },
         OperandForm::Integer(Some(number)) => Ok(Some(Operand::Imm(*number))),
         OperandForm::Slot(entry) => Ok(stack_operand(alloc, place, *entry)),
-        OperandForm::Fixed(_) => Ok(stand_in(alloc, place)),
+        OperandForm::Fixed(n) => Ok(fixed_operand(alloc, place, *n)),
         OperandForm::Part(half, address) => half_operand(*half, address),
         OperandForm::Block(block) => Ok(Some(Operand::Block(*block))),
         OperandForm::Symbol(name) => Ok(Some(Operand::Symbol(name.copy()?))),

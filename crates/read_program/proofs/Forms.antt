@@ -68,6 +68,7 @@ FormFits linked (operands.Register r) = NameFits r.name
 FormFits linked (operands.Integer i) = IntegerFits i
 FormFits linked (operands.Expression e) = ExpressionFits e
 FormFits linked (operands.Part half a) = (linked ≡ true) × AddendFits a.addend
+FormFits linked (operands.Fixed n) = linked ≡ true
 FormFits linked o = Unit {0}
 
 -- R holds of each
@@ -283,7 +284,7 @@ typed_fits false ts read e fit = mask_fits false ts read e fit
 
 fixed_fits : (linked : Bool) (n : ℕ) (ts : List Lexeme) (read : OperandForm × List Lexeme) → fixed_at linked n ts ≡ Some read → AllFit ts →
     ReadsOperand linked read
-fixed_fits true n ts read e fit = reads true (operands.Fixed n) ts read e tt fit
+fixed_fits true n ts read e fit = reads true (operands.Fixed n) ts read e refl fit
 fixed_fits false n ts read e fit = absurd cc
 
 expression_at_fits : (linked : Bool) (ts : List Lexeme) (read : OperandForm × List Lexeme) → expression_at ts ≡ Some read → AllFit ts → ReadsOperand linked read

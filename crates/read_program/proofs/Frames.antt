@@ -1,5 +1,6 @@
 -- The slots and the objects of a function: each declared entry is one of them, and objects are where they must be.
-use Rattle.std.proofs.Common.{◌≡◌, ◌⊎◌, ℕ, zero, suc, ◌+◌, Bool, true, false, cond, not, ◌||◌, eqb, List, [], ◌∷◌, ◌++◌, map, length, All, Option, Some, None}
+use Rattle.std.proofs.Common.{◌≡◌, ◌⊎◌, ℕ, zero, suc, ◌+◌, ◌≤◌, Bool, true, false, cond, not, ◌||◌, eqb, List, [], ◌∷◌, ◌++◌, map, length, All, Option, Some}
+use Rattle.std.proofs.Common.{None}
 use Rattle.std.proofs.Common.{refl, sym, ap, subst, ◌∙◌, append_assoc, append-nil, inl, inr, arith}
 use Rattle.std.specs.Prelude.{Contains, is_some, max}
 use Rattle.std.specs.List.{slice_get}
@@ -7,6 +8,7 @@ use Rattle.std.proofs.lemmas.Bool.{or_left, or_right, or_cases, eq-eqb, eqb-true
 use Rattle.std.proofs.lemmas.List.{map-append, length-append}
 use Rattle.std.proofs.lemmas.List.Elements.{All-nil, All-push, All-head, All-tail}
 use Rattle.std.proofs.lemmas.List.Folds.{list_any-append}
+use Rattle.base_ids.specs.Limits.{MAX_NUMBER}
 use Rattle.mir_func.specs.declared.object.Object.{Object}
 use Rattle.mir_func.specs.Objects.{ALIGNMENTS, up_to, reach_after, reach_from, block_size, counted, local_count, local_offsets, place_of, next_end}
 use Rattle.mir_func.specs.Objects.{AreLaidFrom, AreLaid, IsPlaced, end_past, area_of, HasNoFixed}
@@ -41,7 +43,7 @@ chosen test ns (e ∷ es) = chosen test (cond (test e) (ns ++ e.id ∷ []) ns) e
 abbrev AreFree : List ℕ → List StackEntry → Type 0
 AreFree ns es = (i n : ℕ) → slice_get (numbers es) i ≡ Some n → is_met n ns ≡ false
 
-met_push : (n m : ℕ) (ns : List ℕ) → is_met n (ns ++ m ∷ []) ≡ true → (is_met n ns ≡ true) ⊎ (n ≡ m)
+pub met_push : (n m : ℕ) (ns : List ℕ) → is_met n (ns ++ m ∷ []) ≡ true → (is_met n ns ≡ true) ⊎ (n ≡ m)
 met_push n m ns is = elim (or_cases (is_met n ns) (is_met n (m ∷ [])) (sym (list_any-append (λ (k : ℕ). eqb n k) ns (m ∷ [])) ∙ is)) [
   | inl old ↦ inl old
   | inr last ↦ elim (or_cases (eqb n m) false last) [ inl same ↦ inr (eqb-true n m same) | inr none ↦ absurd cc ]
@@ -232,6 +234,32 @@ module _ (named : List ℕ) where
   all_laid : (es : List StackEntry) → All IsReadEntry es → IsLaid (local_block es) (objects_of named es)
   all_laid es all = laid_behind (local_block es) (record { objects = []; end = local_block es }) es all
       (record { each = All-nil IsSoundObject; laid_from = tt; end_is = refl })
+
+  ids_more : (block : ℕ) (laid : ObjectLayout) (e : StackEntry) → IsReadEntry e → All (λ n. n ≤ MAX_NUMBER) (map (λ (o : Object). o.id) laid.objects) →
+      All (λ n. n ≤ MAX_NUMBER) (map (λ (o : Object). o.id) (with_object named block laid e).objects)
+  ids_more block laid e entry is = by (is_stack_object named e) where
+    by : (b : Bool) → All (λ n. n ≤ MAX_NUMBER) (map (λ (o : Object). o.id) (cond b (record {
+      objects = laid.objects ++ laid_at block laid.end e ∷ [];
+      end = next_end laid.end (place_of block laid.end e.align e.local_offset + e.size) e.local_offset;
+    }) laid).objects)
+    by true = subst (λ (ns : List ℕ). All (λ n. n ≤ MAX_NUMBER) ns)
+        (sym (map-append (λ (o : Object). o.id) laid.objects (laid_at block laid.end e ∷ [])))
+        (All-push (λ n. n ≤ MAX_NUMBER) (map (λ (o : Object). o.id) laid.objects) e.id is entry.id)
+    by false = is
+
+  ids_behind_low : (block : ℕ) (laid : ObjectLayout) (es : List StackEntry) → All IsReadEntry es →
+      All (λ n. n ≤ MAX_NUMBER) (map (λ (o : Object). o.id) laid.objects) →
+      All (λ n. n ≤ MAX_NUMBER) (map (λ (o : Object). o.id) (objects_behind named block laid es).objects)
+  unfolding objects_behind
+  ids_behind_low block laid [] all is = is
+  ids_behind_low block laid (e ∷ es) all is =
+      ids_behind_low block (with_object named block laid e) es (All-tail IsReadEntry e es all) (ids_more block laid e (All-head IsReadEntry e es all) is)
+
+  -- the numbers of objects among stack entries
+  pub objects_low : (es : List StackEntry) → All IsReadEntry es →
+      All (λ n. n ≤ MAX_NUMBER) (map (λ (o : Object). o.id) (objects_of named es).objects)
+  objects_low es all =
+      ids_behind_low (local_block es) (record { objects = []; end = local_block es }) es all (All-nil (λ n. n ≤ MAX_NUMBER))
 
   pub objects_sound : (es : List StackEntry) → All IsReadEntry es → All IsSoundObject (objects_of named es).objects
   objects_sound es all = (all_laid es all).each

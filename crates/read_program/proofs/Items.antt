@@ -58,12 +58,12 @@ use Rattle.read_program.proofs.Operands.{forms_read, head_met, tail_met}
 
 -- ---- what an item keeps
 
--- the stack entries that an item names are among these
+-- the stack entries and fixed objects that an item names are among these
 abbrev pub KindNamesAmong : List ℕ → ItemKind → Type 0
 KindNamesAmong entries (Code i k) = All (NamesAmong entries) i.operands
 KindNamesAmong entries (Mark v m) = Unit {0}
 KindNamesAmong entries (Phi None k) = Unit {0}
-KindNamesAmong entries (Phi (Some (place.Slot n)) k) = is_met n entries ≡ true
+KindNamesAmong entries (Phi (Some (place.Slot n)) k) = (n ≤ MAX_NUMBER) × (is_met n entries ≡ true)
 KindNamesAmong entries (Phi (Some (place.Register r)) k) = Unit {0}
 KindNamesAmong entries (Phi (Some (place.Const c)) k) = Unit {0}
 
@@ -225,7 +225,10 @@ place_reads : (linked : Bool) (entries : List ℕ) (o : OperandForm) (p : Option
     IsReadPlace entries p
 place_reads linked entries (form.Register r) p is e = register_place_reads entries r.flag r.name p is.fits e
 place_reads linked entries (form.Slot n) p is e =
-    place_is entries (Some (place.Slot n)) p e (record { limited = within_limit n is.within; named = λ k. is.named n refl })
+    place_is entries (Some (place.Slot n)) p e (record {
+      limited = within_limit n is.within;
+      named = λ k. (within_limit n is.within, is.named n refl);
+    })
 place_reads linked entries (form.Fixed n) p is e = place_is entries None p e (record { limited = tt; named = λ k. tt })
 place_reads linked entries (form.Part half a) p is e = absurd cc
 place_reads linked entries (form.Address a) p is e = absurd cc

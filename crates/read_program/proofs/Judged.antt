@@ -23,7 +23,7 @@ use Rattle.read_item.specs.Opcode.{opcode_of, returning, is_read}
 use Rattle.read_item.specs.Address.{address_operands, halves_in, address_rules, halves_unless, address_of}
 use Rattle.read_item.specs.Code.{refusal_by, operands_of, places_of, fits, is_refused_virtual, is_refused_operand, is_pointer, is_pointer_operand}
 use Rattle.read_item.specs.Code.{has_implicit_callee, begins_with_virtual, names_refused}
-use Rattle.read_item.specs.Code.{is_misplaced, is_long, has_half_of_fixed, code_rules}
+use Rattle.read_item.specs.Code.{is_misplaced, is_long, code_rules}
 use Rattle.read_item.specs.Code.{instruction, unless_refused, code_of}
 use Rattle.read_item.specs.Debug.{debug_kind, is_empty, debug_rules, kind_unless, debug_of}
 use Rattle.read_item.specs.declared.judged.Judged.{Judged}
@@ -91,12 +91,11 @@ pub code_line : (op : Op) (line : ItemForm) (instr : Instruction) → code_of op
 unfolding code_of
 code_line op line instr e =
     let read = unless_refused_ok (refusal_by (code_rules op line)) (instruction op line.volatile (operands_of op line)) instr e in
-    let rules = five_kept (not (fits op (operands_of op line)) || (line.exceeds || has_half_of_fixed line.operands)) (names_refused op line)
+    let rules = five_kept (not (fits op (operands_of op line)) || line.exceeds) (names_refused op line)
     (list_any is_pointer line.definitions || list_any is_pointer_operand line.operands) (list_any is_misplaced (zip (places_of op line) line.operands))
     (is_long line) kinds.BadOperands kinds.VirtualRegister kinds.StackPointerUse kinds.StackObject kinds.TooMany read.0 in
-    let parts = or_parts (not (fits op (operands_of op line))) (line.exceeds || has_half_of_fixed line.operands) rules.0 in
-    let inside = or_parts line.exceeds (has_half_of_fixed line.operands) parts.1 in
-    code_line_by op line instr (operands_of op line) refl (not-false (fits op (operands_of op line)) parts.0) read.1 inside.0
+    let parts = or_parts (not (fits op (operands_of op line))) line.exceeds rules.0 in
+    code_line_by op line instr (operands_of op line) refl (not-false (fits op (operands_of op line)) parts.0) read.1 parts.1
     (or_parts (list_any is_refused_virtual line.definitions || list_any is_refused_operand line.operands)
     (has_implicit_callee op && begins_with_virtual line.operands) rules.1).0 rules.2 rules.3 rules.4
 

@@ -18,6 +18,7 @@ pub mod Stack
 pub mod Entries
 pub mod ConstantSets
 pub mod Frames
+pub mod FixedObjects
 pub mod Renamed
 pub mod Printed
 pub mod Sound

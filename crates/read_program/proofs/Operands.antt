@@ -1,9 +1,9 @@
 -- What the operands of a line of code give: operands of these numbers, none of which is the stack pointer, and which name no stack entry but those of the line.
 use Rattle.std.proofs.Common.{◌≡◌, ℕ, ℤ, pos, ◌+◌, ◌<◌, ◌≤◌, Bool, true, false, cond, eqb, ltb, List, [], ◌∷◌, ◌++◌, All, Option, Some, None, refl, sym}
-use Rattle.std.proofs.Common.{subst, ◌∙◌, arith}
+use Rattle.std.proofs.Common.{◌-◌, leb, ap, subst, ◌∙◌, arith}
 use Rattle.std.specs.List.{list_any, cons_option}
-use Rattle.std.specs.Prelude.{unwrap_or}
-use Rattle.std.proofs.lemmas.Bool.{or_parts, leb-false, ltb-true, eqb-false, or_left, or_right, eq-eqb}
+use Rattle.std.specs.Prelude.{min, unwrap_or}
+use Rattle.std.proofs.lemmas.Bool.{or_parts, leb-true, leb-false, le-leb, lt-leb, ltb-true, eqb-false, or_left, or_right, eq-eqb}
 use Rattle.std.proofs.lemmas.List.Elements.{All-nil, All-cons, All-append, All-weaker}
 use Rattle.rv64_instr.specs.declared.op.Op.{Op}
 use Rattle.rv64_instr.specs.declared.operand.Operand.{Operand}
@@ -13,7 +13,7 @@ use Rattle.rv64_instr.specs.declared.symbol.Half.{Half}
 use Rattle.rv64_instr.specs.declared.symbol.Symbol.{Symbol as Linked}
 use Rattle.rv64_instr.specs.declared.symbol.Symbol.TheVariants.{Global, Constant as PoolConstant}
 use Rattle.mir_func.specs.Sound.{IsNotPointer}
-use Rattle.base_ids.specs.Limits.{MAX_NUMBER}
+use Rattle.base_ids.specs.Limits.{MAX_NUMBER, FIXED, text_number}
 use Rattle.read_token.specs.declared.lexeme.Flag.{Flag}
 use Rattle.read_token.specs.declared.lexeme.Flag.TheVariants as flags
 use Rattle.read_token.specs.declared.lexeme.RegisterName.{RegisterName}
@@ -28,7 +28,8 @@ use Rattle.read_item.specs.declared.place.OperandKind.{OperandKind}
 use Rattle.read_item.specs.declared.place.OperandKind.TheVariants as place
 use Rattle.read_item.specs.Place.{front, behind}
 use Rattle.read_item.specs.Code.{STAND_IN, VIRTUALS, virtual_operand}
-use Rattle.read_item.specs.Code.{number_of, used, stand_in, stack_operand, number_operand, half_operand, operand_at, before, joined, set_by, definition}
+use Rattle.read_item.specs.Code.{number_of, used, stand_in, stack_operand, fixed_number, fixed_operand, number_operand, half_operand, operand_at, before}
+use Rattle.read_item.specs.Code.{joined, set_by, definition}
 use Rattle.read_item.specs.Code.{definitions, placed, called, callee_register, callee_operand, placed_behind_callee, has_implicit_callee, placed_by}
 use Rattle.read_item.specs.Code.{places_of, operands_of, is_named, is_pointer, is_pointer_operand}
 use Rattle.read_item.specs.Judge.{entry_of, entries_of}
@@ -39,9 +40,9 @@ use Rattle.read_program.proofs.Lists.{both}
 use Rattle.read_program.proofs.Addends.{AddendFits}
 use Rattle.read_program.proofs.Forms.{AllOf, FormFits, RegisterFits, IntegerFits}
 
--- the stack entries that an operand names are among these, and it isn't a slot that is passed
+-- the stack entries and fixed objects that an operand names are among these, and it isn't a slot that is passed
 abbrev pub NamesAmong : List ℕ → Operand → Type 0
-NamesAmong entries (Slot n) = is_met n entries ≡ true
+NamesAmong entries (Slot n) = (n ≤ MAX_NUMBER) × (is_met n entries ≡ true)
 NamesAmong entries (Object n) = is_met n entries ≡ true
 NamesAmong entries (Outgoing n) = ⊥
 NamesAmong entries GlobalRegisters = ⊥
@@ -50,19 +51,49 @@ NamesAmong entries o = Unit {0}
 -- the numbers of an operand that was read, and that it is of the language
 abbrev pub IsLimitedIn : (linked : Bool) → Operand → Type 0
 IsLimitedIn linked (Part half y) = (linked ≡ true) × AddressIsLimited y
+IsLimitedIn linked (Object n) = (FIXED ≤ n → linked ≡ true) × (text_number n ≤ MAX_NUMBER)
 IsLimitedIn linked o = IsLimited o
 
 pub limited_in : (linked : Bool) (o : Operand) → IsLimitedIn linked o → IsLimited o
 limited_in linked (Part half y) is = is.1
+limited_in linked (Object n) is = is.1
 limited_in linked o is = is
 
 pub language_in : (linked : Bool) (o : Operand) → IsLimitedIn linked o → IsOperandOf linked o
 language_in linked (Part half y) is = is.0
+language_in linked (Object n) is = is.0
 language_in linked o is = tt
 
 pub in_language : (linked : Bool) (o : Operand) → IsLimited o × IsOperandOf linked o → IsLimitedIn linked o
 in_language linked (Part half y) is = (is.1, is.0)
+in_language linked (Object n) is = (is.1, is.0)
 in_language linked o is = is.0
+
+-- ---- the numbers of stack entries and of fixed objects
+
+-- a small number is that of a stack entry
+pub small_text : (n : ℕ) → n ≤ MAX_NUMBER → text_number n ≤ MAX_NUMBER
+small_text n small =
+    subst (λ (k : ℕ). k ≤ MAX_NUMBER) (sym (ap (λ (b : Bool). cond b (n - FIXED) n) (lt-leb FIXED n (omega (arith, small))))) small
+
+-- a number from FIXED on is that of a fixed object
+pub great_text : (n : ℕ) → FIXED ≤ n → n ≤ FIXED + MAX_NUMBER → text_number n ≤ MAX_NUMBER
+great_text n great small =
+    subst (λ (k : ℕ). k ≤ MAX_NUMBER) (sym (ap (λ (b : Bool). cond b (n - FIXED) n) (le-leb FIXED n great))) (omega (arith, small))
+
+-- each is one of them
+pub data IsEntryNumber (n : ℕ) : Type 0 where
+  of_entry : n ≤ MAX_NUMBER → IsEntryNumber n
+  of_fixed : FIXED ≤ n → n ≤ FIXED + MAX_NUMBER → IsEntryNumber n
+
+pub entry_number : (n : ℕ) → text_number n ≤ MAX_NUMBER → IsEntryNumber n
+entry_number n low = by (leb FIXED n) refl low where
+  by : (b : Bool) → leb FIXED n ≡ b → cond b (n - FIXED) n ≤ MAX_NUMBER → IsEntryNumber n
+  by true great small = of_fixed (leb-true FIXED n great) (omega (arith, small))
+  by false less small = of_entry small
+
+pub small_entry : (linked : Bool) (n : ℕ) → n ≤ MAX_NUMBER → IsLimitedIn linked (Object n)
+small_entry linked n small = (λ great. absurd (omega (arith, small, great)), small_text n small)
 
 -- elsewhere than in the linked language, code isn't volatile
 pub not_volatile : (volatile : Bool) → (volatile ≡ true → false ≡ true) → volatile ≡ false
@@ -172,8 +203,9 @@ stand_in_reads linked entries place.Implicit o e = absurd cc
 stack_reads : (linked : Bool) (entries : List ℕ) (p : OperandKind) (n : ℕ) (o : Operand) → n ≤ MAX_NUMBER → is_met n entries ≡ true →
     stack_operand p n ≡ Some o →
     IsReadOperand linked entries o
-stack_reads linked entries place.Object n o small met e = reads linked entries o (Object n) e (record { limited = small; pointer = tt; named = met })
-stack_reads linked entries place.Slot n o small met e = reads linked entries o (Slot n) e (record { limited = small; pointer = tt; named = met })
+stack_reads linked entries place.Object n o small met e =
+    reads linked entries o (Object n) e (record { limited = small_entry linked n small; pointer = tt; named = met })
+stack_reads linked entries place.Slot n o small met e = reads linked entries o (Slot n) e (record { limited = small; pointer = tt; named = (small, met) })
 stack_reads linked entries place.Register n o small met e = reads linked entries o (Use 10) e (record {
   limited = omega arith;
   pointer = λ two. omega
@@ -185,6 +217,28 @@ stack_reads linked entries place.Block n o small met e = reads linked entries o 
 stack_reads linked entries place.Symbol n o small met e = reads linked entries o (Symbol []) e (record { limited = tt; pointer = tt; named = tt })
 stack_reads linked entries place.Mask n o small met e = reads linked entries o Mask e (record { limited = tt; pointer = tt; named = tt })
 stack_reads linked entries place.Implicit n o small met e = absurd cc
+
+-- a fixed object at an address, and what stands in for one elsewhere
+fixed_is : (linked : Bool) (entries : List ℕ) (n : ℕ) (o : Operand) → linked ≡ true → is_met (fixed_number n) entries ≡ true →
+    Some (Object (fixed_number n)) ≡ Some o → IsReadOperand linked entries o
+fixed_is linked entries n o is met e =
+    let small : min n MAX_NUMBER ≤ MAX_NUMBER = omega arith in
+    reads linked entries o (Object (fixed_number n)) e (record {
+      limited = (λ great. is, great_text (fixed_number n) (omega arith) (omega (arith, small)));
+      pointer = tt;
+      named = met;
+    })
+
+fixed_reads : (linked : Bool) (entries : List ℕ) (p : OperandKind) (n : ℕ) (o : Operand) → linked ≡ true → is_met (fixed_number n) entries ≡ true →
+    fixed_operand p n ≡ Some o → IsReadOperand linked entries o
+fixed_reads linked entries place.Object n o is met e = fixed_is linked entries n o is met e
+fixed_reads linked entries place.Slot n o is met e = fixed_is linked entries n o is met e
+fixed_reads linked entries place.Register n o is met e = stand_in_reads linked entries place.Register o e
+fixed_reads linked entries place.Number n o is met e = stand_in_reads linked entries place.Number o e
+fixed_reads linked entries place.Block n o is met e = stand_in_reads linked entries place.Block o e
+fixed_reads linked entries place.Symbol n o is met e = stand_in_reads linked entries place.Symbol o e
+fixed_reads linked entries place.Mask n o is met e = stand_in_reads linked entries place.Mask o e
+fixed_reads linked entries place.Implicit n o is met e = stand_in_reads linked entries place.Implicit o e
 
 symbol_limited : (symbol : Linked) → symbol_exceeds symbol ≡ false → SymbolIsLimited symbol
 symbol_limited (Global name) within = tt
@@ -206,7 +260,7 @@ operand_reads : (linked : Bool) (entries : List ℕ) (p : OperandKind) (f : Oper
 operand_reads linked entries p (form.Register r) o is e = used_reads linked entries r.flag r.name (number_of r.flag r.name) refl o is.fits is.pointer e
 operand_reads linked entries p (form.Integer i) o is e = number_reads linked entries i o is.fits e
 operand_reads linked entries p (form.Slot n) o is e = stack_reads linked entries p n o (within_limit n is.within) (is.named n refl) e
-operand_reads linked entries p (form.Fixed n) o is e = stand_in_reads linked entries p o e
+operand_reads linked entries p (form.Fixed n) o is e = fixed_reads linked entries p n o is.fits (is.named (fixed_number n) refl) e
 operand_reads linked entries p (form.Part half a) o is e = half_reads linked entries half a.symbol a.addend o is.fits is.within e
 operand_reads linked entries p (form.Address a) o is e = absurd cc
 operand_reads linked entries p form.Literal o is e = absurd cc

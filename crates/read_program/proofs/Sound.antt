@@ -1,5 +1,5 @@
 -- A function that breaks no other rule, and whose blocks end well, is sound.
-use Rattle.std.proofs.Common.{◌≡◌, ℕ, zero, suc, ◌+◌, ◌<◌, Bool, true, false, cond, leb, List, [], ◌∷◌, ◌++◌, map, All, Option, Some, None}
+use Rattle.std.proofs.Common.{◌≡◌, ℕ, ◌≤◌, zero, suc, ◌+◌, ◌<◌, Bool, true, false, cond, leb, List, [], ◌∷◌, ◌++◌, map, All, Option, Some, None}
 use Rattle.std.proofs.Common.{refl, sym, ap, subst, ◌∙◌, nat_eq}
 use Rattle.std.specs.Prelude.{Contains}
 use Rattle.std.specs.List.{slice_get, list_all}
@@ -29,6 +29,7 @@ use Rattle.rv64_instr.specs.Instruction.{Instruction}
 use Rattle.rv64_instr.specs.Row.{Row, Addresses, Loads, Stores, Branches, Jumps}
 use Rattle.rv64_instr.specs.Row.{row_of, immediate_row, object_row}
 use Rattle.rv64_instr.specs.Row.{move_row, implicit_uses, outgoing_words, held_tail, held_gone}
+use Rattle.base_ids.specs.Limits.{MAX_NUMBER}
 use Rattle.mir_func.specs.declared.block.Block.{Block}
 use Rattle.mir_func.specs.declared.exit.Exit.TheVariants.{Onward}
 use Rattle.mir_func.specs.declared.item.Item.{Item}
@@ -154,15 +155,16 @@ move_slot : (slots : List ℕ) (rd rs : ℕ) → SlotIn slots (move_row rd rs)
 move_slot slots rd zero = tt
 move_slot slots rd (suc r) = tt
 
-module _ (named : List ℕ) (es : List StackEntry) (entries : List ℕ) (all : (n : ℕ) → is_met n entries ≡ true → is_met n (entry_ids es) ≡ true) where
+module _ (named : List ℕ) (es : List StackEntry) (entries : List ℕ)
+    (all : (n : ℕ) → n ≤ MAX_NUMBER → is_met n entries ≡ true → is_met n (entry_ids es) ≡ true) where
   abbrev ids : List ℕ
   ids = ids_of_objects named es
 
   abbrev slots : List ℕ
   slots = slots_of named es
 
-  in_slots : (n : ℕ) → is_met n entries ≡ true → is_met n ids ≡ false → Contains slots n
-  in_slots n is none = slot_if_no_object named es n (all n is) none
+  in_slots : (n : ℕ) → (n ≤ MAX_NUMBER) × (is_met n entries ≡ true) → is_met n ids ≡ false → Contains slots n
+  in_slots n is none = slot_if_no_object named es n (all n is.0 is.1) none
 
   slot_immediate : (op : ImmediateOp) (os : List Operand) → fits_immediate op os ≡ true → SlotIn slots (row_as ids (Immediate op) os)
   slot_immediate op (Def rd ∷ Use a ∷ Imm i ∷ rest) e = immediate_slot slots op rd a (word i)

@@ -1,5 +1,5 @@
 -- What was read and breaks no other rule where it closes is sound exactly where its blocks end well.
-use Rattle.std.proofs.Common.{◌≡◌, ℕ, ◌<◌, ◌≤◌, Bool, true, false, cond, ◌&&◌, ◌||◌, eqb, List, length, All, Option, Some, None, Result, Ok, Err}
+use Rattle.std.proofs.Common.{◌≡◌, ℕ, ◌+◌, ◌-◌, ◌<◌, ◌≤◌, Bool, true, false, cond, ◌&&◌, ◌||◌, eqb, List, length, All, Option, Some, None, Result, Ok, Err}
 use Rattle.std.proofs.Common.{refl, sym, ap, subst, ◌∙◌, arith}
 use Rattle.std.specs.Prelude.{Contains, is_some, IfOk}
 use Rattle.std.proofs.lemmas.Bool.{eqb-true, and_parts, and_from}
@@ -12,6 +12,9 @@ use Rattle.read_documents.specs.declared.parts.FunctionDocument.{FunctionDocumen
 use Rattle.read_refusal.specs.declared.first.Refusal.{Refusal}
 use Rattle.mir_func.specs.declared.block.Block.{Block}
 use Rattle.mir_func.specs.declared.item.Item.{Item}
+use Rattle.mir_func.specs.declared.object.Object.{Object}
+use Rattle.mir_func.specs.Limits.{MAX_SLOTS}
+use Rattle.base_ids.specs.Limits.{MAX_NUMBER, FIXED}
 use Rattle.mir_func.specs.declared.item.ItemKind.{ItemKind}
 use Rattle.mir_func.specs.declared.location.Loc.{Loc}
 use Rattle.mir_func.specs.Function.{Function}
@@ -26,23 +29,27 @@ use Rattle.read_body.specs.Body.{blocks_of}
 use Rattle.read_body.specs.Closing.{blocks_go_to, item_goes_to, all_met}
 use Rattle.read_body.specs.StackEntryKind.{IsStackEntry, slots_of, objects_of, ids_of_objects}
 use Rattle.read_body.specs.FirstUseOrder.{is_met}
+use Rattle.read_body.specs.read_declarations.Fixed.{fixed_ids}
+use Rattle.read_body.proofs.FixedObjects.{length_with}
 use Rattle.read_program.specs.declared.closing.Parsed.{Parsed}
 use Rattle.read_program.specs.declared.closing.Parts.{Parts}
 use Rattle.read_program.specs.declared.error.ParseError.TheVariants as errors
 use Rattle.read_program.specs.BodyLines.{body_of}
 use Rattle.read_program.specs.Objects.{item_as, block_as, blocks_as}
 use Rattle.read_program.specs.Pool.{are_known}
-use Rattle.read_program.specs.Closing.{entry_ids, AreEntries, laid_out, stays, parts_of, closing_cause, function_of, EndWell, ClosesWith, Closes}
+use Rattle.read_program.specs.Closing.{entry_ids, known_ids, AreEntries, all_objects, laid_out, stays, parts_of, closing_cause, function_of, EndWell}
+use Rattle.read_program.specs.Closing.{ClosesWith, Closes}
 use Rattle.read_program.proofs.Bodies.{IsReadBlock, IsReadBody}
 use Rattle.read_program.proofs.Comes.{EndsFromLine, body_reads}
 use Rattle.read_program.proofs.Entries.{declared_if_met}
-use Rattle.read_program.proofs.Frames.{slots_apart, objects_apart, frame_count, objects_sound, objects_laid}
+use Rattle.read_program.proofs.FixedObjects.{laid_with, sound_with, numbers_with, known_entry}
+use Rattle.read_program.proofs.Frames.{slots_apart, objects_apart, frame_count, objects_sound, objects_laid, objects_unfixed, objects_low}
 use Rattle.read_program.proofs.Items.{IsReadItem}
 use Rattle.read_program.proofs.Keeps.{keeps_item}
 use Rattle.read_program.proofs.Lists.{both, met_contains}
 use Rattle.read_program.proofs.Renamed.{ids_as, blocks_kept}
 use Rattle.read_program.proofs.Sound.{targets_as, slots_as, first_as, pointer_as, all_objects_in, once_as, origins_in, all_go}
-use Rattle.read_program.proofs.Stack.{IsReadEntry, IsReadStack, declared_stack}
+use Rattle.read_program.proofs.Stack.{IsReadEntry, IsReadStack, IsReadFixed, declared_stack, declared_fixed}
 
 -- ---- declared entries
 
@@ -65,24 +72,29 @@ entry_is e is = let small = aligned_small e.align is.aligned in record { size = 
 
 -- what a document declares has room
 pub declared_entries : (doc : FunctionDocument) (read : Result Declarations Refusal) → read ≡ declarations_of doc → IfOk read (λ d. AreEntries d.stack)
-declared_entries doc (Ok d) e = let stack = declared_stack doc d (sym e) in (stack.few, All-weaker IsReadEntry IsStackEntry entry_is d.stack stack.each)
+declared_entries doc (Ok d) e =
+    let stack = declared_stack doc d (sym e) in (
+      stack.few,
+      All-weaker IsReadEntry IsStackEntry entry_is d.stack stack.each,
+      λ named. record { each = objects_sound named d.stack stack.each; laid = objects_laid named d.stack stack.each stack.several },
+    )
 declared_entries doc (Err r) e = tt
 
 -- ---- no cause
 
 record ClosesAll (d : Declarations) (body : Body) : Type 0 where
   branches : blocks_go_to body.ids (blocks_of body) ≡ true
-  entries : all_met (entry_ids d.stack) body.entries ≡ true
-  accesses : stays (laid_out body.objects d.stack (blocks_of body)) ≡ true
+  entries : all_met (known_ids d) body.entries ≡ true
+  accesses : stays (laid_out body.objects d.stack d.fixed (blocks_of body)) ≡ true
 
 parts_some : (b : Bool) (parts : Parts) → is_some (cond b (Some parts) None) ≡ true → b ≡ true
 parts_some true parts e = refl
 parts_some false parts e = absurd cc
 
 closes_all : (d : Declarations) (body : Body) → closing_cause d body ≡ None → ClosesAll d body
-closes_all d body none = by (blocks_go_to body.ids (blocks_of body)) (all_met (entry_ids d.stack) body.entries) refl refl none where
+closes_all d body none = by (blocks_go_to body.ids (blocks_of body)) (all_met (known_ids d) body.entries) refl refl none where
   parts : Option Parts
-  parts = parts_of body.objects d.stack (blocks_of body)
+  parts = parts_of body.objects d.stack d.fixed (blocks_of body)
 
   known : Bool
   known = are_known (constant_ids d.pool) (blocks_of body)
@@ -91,12 +103,12 @@ closes_all d body none = by (blocks_go_to body.ids (blocks_of body)) (all_met (e
   made true is e = (and_parts known (is_some parts) is).1
   made false is e = absurd cc
 
-  by : (a b : Bool) → blocks_go_to body.ids (blocks_of body) ≡ a → all_met (entry_ids d.stack) body.entries ≡ b →
+  by : (a b : Bool) → blocks_go_to body.ids (blocks_of body) ≡ a → all_met (known_ids d) body.entries ≡ b →
       cond a (cond (b && (known && is_some parts)) None (Some StackObject)) (Some UnknownBlock) ≡ None → ClosesAll d body
   by true true p q e = record {
     branches = p;
     entries = q;
-    accesses = parts_some (stays (laid_out body.objects d.stack (blocks_of body))) (laid_out body.objects d.stack (blocks_of body)) (made
+    accesses = parts_some (stays (laid_out body.objects d.stack d.fixed (blocks_of body))) (laid_out body.objects d.stack d.fixed (blocks_of body)) (made
         (known && is_some parts) refl e);
   }
   by true false p q e = absurd cc
@@ -105,15 +117,22 @@ closes_all d body none = by (blocks_go_to body.ids (blocks_of body)) (all_met (e
 -- ---- functions
 
 module _ (linked : Bool) (meta : Maps) (d : Declarations) (body : Body) (is : IsReadBody (EndsFromLine linked meta body) body) (stack : IsReadStack d.stack)
-    (closes : ClosesAll d body) where
+    (fixed : IsReadFixed (MAX_SLOTS - length d.stack) d.fixed) (closes : ClosesAll d body) where
   abbrev ids : List ℕ
   ids = ids_of_objects body.objects d.stack
 
   abbrev bs : List Block
   bs = blocks_of body
 
-  all : (n : ℕ) → is_met n body.entries ≡ true → is_met n (entry_ids d.stack) ≡ true
-  all = declared_if_met (entry_ids d.stack) body.entries closes.entries
+  great : All (λ n. FIXED ≤ n) (fixed_ids d.fixed)
+  great = All-weaker (λ n. (FIXED ≤ n) × (n ≤ FIXED + MAX_NUMBER)) (λ n. FIXED ≤ n) (λ n is. is.0) (fixed_ids d.fixed) fixed.great
+
+  all : (n : ℕ) → n ≤ MAX_NUMBER → is_met n body.entries ≡ true → is_met n (entry_ids d.stack) ≡ true
+  all n small is = known_entry n (entry_ids d.stack) d.fixed great small (declared_if_met (known_ids d) body.entries closes.entries n is)
+
+  -- the objects among its stack entries
+  abbrev own : List Object
+  own = (objects_of body.objects d.stack).objects
 
   -- an item as it was read, which goes on to blocks that are there
   record IsGood (i : Item) : Type 0 where
@@ -152,18 +171,25 @@ module _ (linked : Bool) (meta : Maps) (d : Declarations) (body : Body) (is : Is
   function_sound ends = record {
     blocks_apart = subst AreApart (sym (ids_as ids bs)) is.apart;
     slots_apart = slots_apart body.objects d.stack stack.apart;
-    objects_apart = objects_apart body.objects d.stack stack.apart;
+    objects_apart = numbers_with own d.fixed (objects_apart body.objects d.stack stack.apart) fixed.apart
+        (objects_low body.objects d.stack stack.each) great;
     few_blocks = omega (arith, ap length same_ids, length-map (blocks_as ids bs) (λ (b : Block). b.id), is.few_blocks);
-    few_slots = omega (arith, frame_count body.objects d.stack, stack.few);
-    each_object = objects_sound body.objects d.stack stack.each;
-    objects_laid = objects_laid body.objects d.stack stack.each stack.several;
+    few_slots = omega (
+      arith,
+      frame_count body.objects d.stack,
+      stack.few,
+      fixed.few,
+      length_with own d.fixed,
+    );
+    each_object = sound_with own d.fixed (objects_sound body.objects d.stack stack.each) fixed.each;
+    objects_laid = laid_with own d.fixed (objects_unfixed body.objects d.stack) (objects_laid body.objects d.stack stack.each stack.several);
     targets = each_as (λ i. TargetsIn (ids_of (blocks_as ids bs)) i.kind)
         (λ i g. targets_as ids body.ids (ids_of (blocks_as ids bs)) has_block i.kind g.item.form g.goes);
     slots = each_as (λ i. SlotsIn (slots_of body.objects d.stack) i.kind)
         (λ i g. slots_as body.objects d.stack body.entries all i.kind g.item.form g.item.named);
     passed = each_as (λ i. KindPassesFirst (slots_of body.objects d.stack) i.kind)
         (λ i g. first_as body.objects d.stack body.entries all i.kind g.item.form g.item.named);
-    objects = all_objects_in (objects_of body.objects d.stack).objects (blocks_as ids bs) closes.accesses;
+    objects = all_objects_in (all_objects body.objects d.stack d.fixed) (blocks_as ids bs) closes.accesses;
     pointer = each_as (λ i. LeavesPointer i.kind) (λ i g. pointer_as body.objects d.stack body.entries all i.kind g.item.form g.item.pointer);
     numbers = once_as ids bs is.once;
     origins = All-weaker (IsReadBlock Any) (λ (b : Block). All (λ i. OriginIn b i.origin) b.items) (λ b r. origins_in Any b r) (blocks_as ids bs) read_blocks;
@@ -177,7 +203,8 @@ module _ (meta : Maps) (doc : FunctionDocument) (d : Declarations) (body : Body)
     (none : closing_cause d body ≡ None) where
   pub sound_if_ends_well : EndWell (function_of d body).blocks → IsSound (function_of d body)
   sound_if_ends_well =
-      function_sound doc.linked meta d body (body_reads doc.linked meta doc.body body read) (declared_stack doc d declared) (closes_all d body none)
+      function_sound doc.linked meta d body (body_reads doc.linked meta doc.body body read) (declared_stack doc d declared) (declared_fixed doc d declared)
+      (closes_all d body none)
 
   -- its function isn't sound: so its blocks don't end well
   pub ends_badly : (line : ℕ) → (IsSound (function_of d body) → ⊥) → Closes line d body (Err (errors.Refused (record { line = line; kind = BlockEnd })))
@@ -194,7 +221,7 @@ ends_well line d body p none sound func subs exposes pool = (none, func, subs, (
 -- what is known where nothing is wrong but how blocks end
 pub record IsLaidOut (d : Declarations) (body : Body) (p : Parts) : Type 0 where
   pub none : closing_cause d body ≡ None
-  pub parts : p ≡ laid_out body.objects d.stack (blocks_of body)
+  pub parts : p ≡ laid_out body.objects d.stack d.fixed (blocks_of body)
 
 parts_are : (b : Bool) (whole p : Parts) → ◌≡◌ {A = Option Parts} (cond b (Some whole) None) (Some p) → (b ≡ true) × (p ≡ whole)
 parts_are true whole p e = (refl, cc)
@@ -207,17 +234,17 @@ cause_none true false c p q r = absurd cc
 cause_none true true false p q r = absurd cc
 
 pub laid_by_parts : (d : Declarations) (body : Body) (blocks : List Block) (known : List ℕ) (made : Option Parts) (p : Parts) → blocks ≡ blocks_of body →
-    blocks_go_to body.ids blocks ≡ true → known ≡ entry_ids d.stack → all_met known body.entries ≡ true → are_known (constant_ids d.pool) blocks ≡ true →
-    made ≡ parts_of body.objects d.stack blocks → made ≡ Some p → IsLaidOut d body p
+    blocks_go_to body.ids blocks ≡ true → known ≡ known_ids d → all_met known body.entries ≡ true → are_known (constant_ids d.pool) blocks ≡ true →
+    made ≡ parts_of body.objects d.stack d.fixed blocks → made ≡ Some p → IsLaidOut d body p
 laid_by_parts d body blocks known made p same goes entries met pool parts is =
-    let here : parts_of body.objects d.stack (blocks_of body) ≡ Some p =
-    ap (parts_of body.objects d.stack) (sym same) ∙ sym parts ∙ is in
-    let whole = parts_are (stays (laid_out body.objects d.stack (blocks_of body))) (laid_out body.objects d.stack (blocks_of body)) p here in
+    let here : parts_of body.objects d.stack d.fixed (blocks_of body) ≡ Some p =
+    ap (parts_of body.objects d.stack d.fixed) (sym same) ∙ sym parts ∙ is in
+    let whole = parts_are (stays (laid_out body.objects d.stack d.fixed (blocks_of body))) (laid_out body.objects d.stack d.fixed (blocks_of body)) p here in
     record {
-      none = cause_none (blocks_go_to body.ids (blocks_of body)) (all_met (entry_ids d.stack) body.entries)
-          (are_known (constant_ids d.pool) (blocks_of body) && is_some (parts_of body.objects d.stack (blocks_of body)))
+      none = cause_none (blocks_go_to body.ids (blocks_of body)) (all_met (known_ids d) body.entries)
+          (are_known (constant_ids d.pool) (blocks_of body) && is_some (parts_of body.objects d.stack d.fixed (blocks_of body)))
           (ap (blocks_go_to body.ids) (sym same) ∙ goes) (ap (λ (l : List ℕ). all_met l body.entries) (sym entries) ∙ met)
-          (and_from (are_known (constant_ids d.pool) (blocks_of body)) (is_some (parts_of body.objects d.stack (blocks_of body)))
+          (and_from (are_known (constant_ids d.pool) (blocks_of body)) (is_some (parts_of body.objects d.stack d.fixed (blocks_of body)))
           (ap (are_known (constant_ids d.pool)) (sym same) ∙ pool) (ap (λ (o : Option Parts). is_some o) here));
       parts = whole.1;
     }

@@ -7,11 +7,14 @@ use Rattle.read_refusal.specs.First.{comes_before}
 use Rattle.read_metadata.specs.Maps.{Maps}
 use Rattle.read_documents.specs.declared.parts.FunctionDocument.{FunctionDocument}
 use Rattle.mir_func.specs.declared.block.Block.{Block}
+use Rattle.mir_func.specs.declared.object.Object.{Object}
+use Rattle.mir_func.specs.Objects.{AreLaid}
 use Rattle.mir_func.specs.Function.{Function}
-use Rattle.mir_func.specs.Sound.{EndsWell, LastCloses}
+use Rattle.mir_func.specs.Sound.{IsSoundObject, EndsWell, LastCloses}
 use Rattle.mir_pool.specs.Pool.{constant_ids}
 use Rattle.read_body.specs.read_declarations.declared.declarations.Declarations.{Declarations}
 use Rattle.read_body.specs.read_declarations.declared.stack.StackEntry.{StackEntry}
+use Rattle.read_body.specs.read_declarations.declared.fixed.FixedEntry.{FixedEntry}
 use Rattle.mir_func.specs.Limits.{MAX_SLOTS}
 use Rattle.read_body.specs.read_declarations.Declarations.{declarations_of}
 use Rattle.read_body.specs.declared.body.Body.{Body}
@@ -19,6 +22,7 @@ use Rattle.read_body.specs.FirstUseOrder.{met}
 use Rattle.read_body.specs.Body.{blocks_of}
 use Rattle.read_body.specs.Closing.{blocks_go_to, all_met}
 use Rattle.read_body.specs.StackEntryKind.{IsStackEntry, slots_of, objects_of, ids_of_objects}
+use Rattle.read_body.specs.FixedObjects.{with_fixed}
 use Rattle.read_program.specs.declared.closing.Parts.{Parts}
 use Rattle.read_program.specs.declared.closing.Parsed.{Parsed}
 use Rattle.read_program.specs.declared.error.ParseError.{ParseError}
@@ -36,15 +40,34 @@ ids_behind ids (e ∷ es) = ids_behind (met e.id ids) es
 abbrev pub entry_ids : List StackEntry → List ℕ
 entry_ids es = ids_behind [] es
 
--- the limits on the stack entries of a document: at most MAX_SLOTS, each with a size and an alignment within its limits
+-- a set of numbers after adding those of these fixed objects
+abbrev pub fixed_behind : List ℕ → List FixedEntry → List ℕ
+fixed_behind ids [] = ids
+fixed_behind ids (e ∷ es) = fixed_behind (met e.id ids) es
+
+-- the set of the numbers of the stack entries and fixed objects of a document
+abbrev pub known_ids : Declarations → List ℕ
+known_ids d = fixed_behind (entry_ids d.stack) d.fixed
+
+-- objects are sound, and where they must be
+pub record AreObjects (objects : List Object) : Type 0 where
+  pub each : All IsSoundObject objects
+  pub laid : AreLaid objects
+
+-- the limits on the stack entries of a document: at most MAX_SLOTS, each with a size and an alignment within its limits; whichever of them code names as
+-- objects, these are laid out
 abbrev pub AreEntries : List StackEntry → Type 0
-AreEntries es = (length es ≤ MAX_SLOTS) × All IsStackEntry es
+AreEntries es = (length es ≤ MAX_SLOTS) × All IsStackEntry es × ((named : List ℕ) → AreObjects (objects_of named es).objects)
+
+-- the objects of a function: those among its stack entries, and its fixed objects
+abbrev pub all_objects : List ℕ → List StackEntry → List FixedEntry → List Object
+all_objects named es fixed = with_fixed (objects_of named es).objects fixed
 
 -- the slots, objects and blocks of a function. `named` are the numbers of the stack entries that code names as objects
-abbrev pub laid_out : List ℕ → List StackEntry → List Block → Parts
-laid_out named es blocks = record {
+abbrev pub laid_out : List ℕ → List StackEntry → List FixedEntry → List Block → Parts
+laid_out named es fixed blocks = record {
   slots = slots_of named es;
-  objects = (objects_of named es).objects;
+  objects = all_objects named es fixed;
   blocks = blocks_as (ids_of_objects named es) blocks;
 }
 
@@ -53,16 +76,16 @@ abbrev pub stays : Parts → Bool
 stays parts = blocks_stay parts.objects parts.blocks
 
 -- the slots, objects and blocks of a function, if each access of a stack object is within it
-abbrev pub parts_of : List ℕ → List StackEntry → List Block → Option Parts
-parts_of named es blocks = if stays (laid_out named es blocks) then Some (laid_out named es blocks) else None
+abbrev pub parts_of : List ℕ → List StackEntry → List FixedEntry → List Block → Option Parts
+parts_of named es fixed blocks = if stays (laid_out named es fixed blocks) then Some (laid_out named es fixed blocks) else None
 
--- Why a function is refused at its closing line: a branch to a block that it doesn't have, else a `%stack.N` or `%const.N` that isn't declared or an access
--- outside its object.
+-- Why a function is refused at its closing line: a branch to a block that it doesn't have, else a `%stack.N`, `%fixed-stack.N` or `%const.N` that isn't
+-- declared or an access outside its object.
 abbrev pub closing_cause : Declarations → Body → Option RefusalKind
 closing_cause d body =
     if blocks_go_to body.ids (blocks_of body)
-    then (if all_met (entry_ids d.stack) body.entries && (are_known (constant_ids d.pool) (blocks_of body) &&
-    is_some (parts_of body.objects d.stack (blocks_of body))) then None else Some StackObject)
+    then (if all_met (known_ids d) body.entries && (are_known (constant_ids d.pool) (blocks_of body) &&
+    is_some (parts_of body.objects d.stack d.fixed (blocks_of body))) then None else Some StackObject)
     else Some UnknownBlock
 
 -- the function with these declarations and this body
@@ -70,7 +93,7 @@ abbrev pub function_of : Declarations → Body → Function
 function_of d body = record {
   name = d.name;
   slots = slots_of body.objects d.stack;
-  objects = (objects_of body.objects d.stack).objects;
+  objects = all_objects body.objects d.stack d.fixed;
   blocks = blocks_as (ids_of_objects body.objects d.stack) (blocks_of body);
 }
 

@@ -17,7 +17,7 @@ use Rattle.mir_func.specs.declared.variable.MarkValue.{MarkValue}
 use Rattle.mir_func.specs.declared.variable.MarkValue.TheVariants.{Nothing, Constant, At, Pair}
 use Rattle.mir_func.specs.declared.variable.VarId.{VarId}
 use Rattle.mir_func.specs.Parts.{IsPart}
-use Rattle.base_ids.specs.Limits.{MAX_NUMBER}
+use Rattle.base_ids.specs.Limits.{MAX_NUMBER, FIXED, text_number}
 use Rattle.read_item.specs.Opcode.{is_read}
 
 -- ---- the numbers of items: a number or count is at most 2^30 - 1, a register is one of x0 to x31 or, unless it is implicit, of `%0` to `%4095`, and other
@@ -42,7 +42,7 @@ IsLimited (ImplicitDef r) = r < 32
 IsLimited (ImplicitUse r) = r < 32
 IsLimited (Imm i) = IsSigned i
 IsLimited (Slot n) = n ≤ MAX_NUMBER
-IsLimited (Object n) = n ≤ MAX_NUMBER
+IsLimited (Object n) = text_number n ≤ MAX_NUMBER
 IsLimited (Part half y) = AddressIsLimited y
 IsLimited (Outgoing n) = ⊥
 IsLimited GlobalRegisters = ⊥
@@ -82,8 +82,9 @@ LocIsLimited (Inline l) = (l.line ≤ MAX_NUMBER) × (l.column ≤ MAX_NUMBER) �
 
 -- ---- languages: the linked language has more operands and opcodes
 
--- an operand of a language: halves of addresses are of the linked one alone
+-- an operand of a language: halves of addresses and fixed stack objects are of the linked one alone
 abbrev pub IsOperandOf : (linked : Bool) → Operand → Type 0
+IsOperandOf linked (Object n) = FIXED ≤ n → linked ≡ true
 IsOperandOf linked (Part half y) = linked ≡ true
 IsOperandOf linked _ = Unit {0}
 

@@ -1,13 +1,14 @@
 //! The function of a document, checked at the line that closes it.
 
-ghost use Rattle.std.specs.Prelude.{◌≡◌, IfOk, IfSome, IsNone, Ok};
+ghost use Rattle.std.specs.Prelude.{◌≡◌, IfOk, IfSome, IsNone, Ok, OnOk};
 ghost use Rattle.read_metadata.specs.Maps.{Maps};
 ghost use Rattle.read_documents.specs.declared.parts.FunctionDocument.{FunctionDocument};
 ghost use Rattle.mir_func.specs.Sound.{IsSound};
 ghost use Rattle.read_body.specs.read_declarations.Declarations.{declarations_of};
 ghost use Rattle.read_body.specs.Body.{and_last};
 ghost use Rattle.read_program.specs.BodyLines.{body_of};
-ghost use Rattle.read_program.specs.Closing.{AreEntries, entry_ids, parts_of, Closes};
+ghost use Rattle.read_program.specs.Closing.{AreEntries, entry_ids, fixed_behind, known_ids, all_objects};
+ghost use Rattle.read_program.specs.Closing.{parts_of, Closes};
 ghost use Rattle.mir_pool.specs.Pool.{constant_ids};
 ghost use Rattle.read_program.specs.Pool.{are_known};
 
@@ -23,8 +24,10 @@ use mir_pool::constant::Pool;
 use read_body::body::Body;
 use read_body::closing::{all_met, blocks_go_to};
 use read_body::first_use_order::FirstUseOrder;
+use read_body::fixed_objects::push_fixed;
 use read_body::mir_substitution_crate::substitutions::Substitutions;
 use read_body::read_declarations_crate::declarations::Declarations;
+use read_body::read_declarations_crate::fixed::FixedEntry;
 use read_body::read_declarations_crate::stack::StackEntry;
 use read_body::stack_entry_kind::{object_ids, objects, slots};
 use read_refusal::first::Refusal;
@@ -64,6 +67,42 @@ fn entry_ids(alloc: Global, entries: &[StackEntry]) -> Result<FirstUseOrder, All
     Ok(ids)
 }
 
+/// Adds the numbers of fixed objects to a set.
+fn meet_fixed(ids: &mut FirstUseOrder, fixed: &[FixedEntry]) -> Result<(), AllocError>
+    ensures { OnOk result (ids.new ≡ fixed_behind ids.old fixed.now) }
+{
+    for entry in fixed {
+        ids.meet(u64::from(entry.id.number()))?;
+    }
+    Ok(())
+}
+
+/// The set of the numbers of the stack entries and fixed objects of a document.
+fn known_ids(alloc: Global, declared: &Declarations) -> Result<FirstUseOrder, AllocError>
+    ensures { IfOk result (λ ids. ids ≡ known_ids declared.now) }
+{
+    let mut ids = entry_ids(alloc, declared.stack.as_slice())?;
+    meet_fixed(&mut ids, declared.fixed.as_slice())?;
+    Ok(ids)
+}
+
+/// The objects of a function: those among its stack entries, where `named` are the entries that code names as objects,
+/// and its fixed objects.
+fn all_objects(
+    alloc: Global,
+    named: &FirstUseOrder,
+    entries: &[StackEntry],
+    fixed: &[FixedEntry],
+) -> Result<Objects, AllocError>
+    requires { AreEntries entries.now }
+    ensures { IfOk result (λ all. all ≡ all_objects named.now entries.now fixed.now) }
+{
+    let laid = objects(alloc, named, entries)?;
+    let mut all = laid.objects;
+    push_fixed(&mut all, fixed)?;
+    Ok(all)
+}
+
 /// Blocks with one more, if there is one.
 fn and_last(mut before: Blocks, last: Option<Block>) -> Result<Blocks, AllocError>
     ensures { IfOk result (λ blocks. blocks ≡ and_last before last) }
@@ -74,27 +113,28 @@ fn and_last(mut before: Blocks, last: Option<Block>) -> Result<Blocks, AllocErro
     Ok(before)
 }
 
-/// The parts of a function with these stack entries and blocks, where `named` are the entries that code names as
-/// objects. `None` if an access is outside its object.
+/// The parts of a function with these stack entries, fixed objects and blocks, where `named` are the entries that code
+/// names as objects. `None` if an access is outside its object.
 fn parts_of(
     alloc: Global,
     named: &FirstUseOrder,
     entries: &[StackEntry],
+    fixed: &[FixedEntry],
     blocks: &[Block],
 ) -> Result<Option<Parts>, AllocError>
     requires { AreEntries entries.now }
-    ensures { IfOk result (λ parts. parts ≡ parts_of named.now entries.now blocks.now) }
+    ensures { IfOk result (λ parts. parts ≡ parts_of named.now entries.now fixed.now blocks.now) }
 {
-    let laid = objects(alloc, named, entries)?;
+    let objects = all_objects(alloc, named, entries, fixed)?;
     let ids = object_ids(alloc, named, entries)?;
     let blocks = blocks_as(alloc, &ids, blocks)?;
-    if !blocks_stay(laid.objects.as_slice(), blocks.as_slice()) {
+    if !blocks_stay(objects.as_slice(), blocks.as_slice()) {
         return Ok(None);
     }
     let slots = slots(alloc, named, entries)?;
     Ok(Some(Parts {
         slots,
-        objects: laid.objects,
+        objects,
         blocks,
     }))
 }
@@ -172,7 +212,7 @@ pub fn close(
     if !blocks_go_to(&ids, blocks.as_slice()) {
         return Err(refused(line, RefusalKind::UnknownBlock));
     }
-    let known = entry_ids(alloc, declared.stack.as_slice())?;
+    let known = known_ids(alloc, &declared)?;
     if !all_met(&known, entries.as_slice()) {
         return Err(refused(line, RefusalKind::StackObject));
     }
@@ -184,6 +224,7 @@ pub fn close(
         alloc,
         &objects,
         declared.stack.as_slice(),
+        declared.fixed.as_slice(),
         blocks.as_slice(),
     )?
     else {

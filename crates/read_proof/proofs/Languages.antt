@@ -1,7 +1,6 @@
 -- The items of a program are of the language in which it is read.
 use Rattle.std.proofs.Common.{◌≡◌, ℕ, zero, suc, ◌+◌, ◌<◌, ◌≤◌, Bool, true, false, cond, ◌&&◌, List, [], ◌∷◌, ◌++◌, length, All, Option, Some, None, Result, Ok, Err}
 use Rattle.std.proofs.Common.{refl, sym, subst, inl, inr}
-use Rattle.std.specs.Prelude.{is_some}
 use Rattle.std.proofs.lemmas.Bool.{cases_lt}
 use Rattle.std.proofs.lemmas.List.Elements.{All-nil, All-cons, All-head, All-tail, All-push}
 use Rattle.read_refusal.specs.declared.first.Refusal.{Refusal}
@@ -16,24 +15,19 @@ use Rattle.read_documents.specs.Documents.{inside, is_closed, is_complete, first
 use Rattle.read_documents.specs.Documents.{documents_from, documents_of}
 use Rattle.mir_func.specs.Function.{Function}
 use Rattle.mir_func.specs.Sound.{AllItems}
-use Rattle.mir_pool.specs.Pool.{constant_ids}
 use Rattle.read_declarations.specs.declared.declarations.Declarations.{Declarations}
 use Rattle.read_declarations.specs.Declarations.{declarations_of}
 use Rattle.read_program.specs.read_body.declared.body.Body.{Body}
-use Rattle.read_program.specs.read_body.Body.{blocks_of}
-use Rattle.read_program.specs.read_body.Closing.{blocks_go_to, all_met}
 use Rattle.read_program.specs.declared.closing.Parsed.{Parsed}
 use Rattle.read_program.specs.declared.error.ParseError.{ParseError}
 use Rattle.read_program.specs.declared.program.Program.{Program}
 use Rattle.read_program.specs.BodyLines.{body_of}
-use Rattle.read_program.specs.Pool.{are_known}
-use Rattle.read_program.specs.Closing.{entry_ids, parts_of, ParsesParts, Parses}
+use Rattle.read_program.specs.Closing.{ParsesParts, Parses}
 use Rattle.read_program.specs.Limited.{IsOfLanguage}
 use Rattle.read_program.specs.Program.{MAX_FUNCTIONS, Goes, too_many, FunctionsFrom}
 use Rattle.read_program.proofs.Comes.{body_reads}
-use Rattle.read_program.proofs.Entries.{declared_if_met}
 use Rattle.read_proof.specs.Read.{ProgramsAreOfTheirLanguage}
-use Rattle.read_proof.proofs.Texts.{all_declared, function_language, program_is}
+use Rattle.read_proof.proofs.Texts.{closed_reads, function_language, program_is}
 
 -- ---- documents
 
@@ -101,10 +95,9 @@ Has linked p = AllItems (λ i. IsOfLanguage linked i.kind) p.func.blocks
 parts_language : (meta : Maps) (doc : FunctionDocument) (declared : Result Declarations Refusal) (body : Result Body Refusal) (p : Parsed) →
     declarations_of doc ≡ declared → body_of doc.linked meta doc.body ≡ body → ParsesParts doc.closed declared body (Ok p) → Has doc.linked p
 parts_language meta doc (Ok d) (Ok body) p said is closes =
-    let met = all_declared (blocks_go_to body.ids (blocks_of body)) (all_met (entry_ids d.stack) body.entries)
-    (are_known (constant_ids d.pool) (blocks_of body) && is_some (parts_of body.objects d.stack (blocks_of body))) closes.0 in
+    let known = closed_reads doc d body said closes.0 in
     subst (λ (f : Function). AllItems (λ i. IsOfLanguage doc.linked i.kind) f.blocks) (sym closes.1)
-    (function_language doc.linked meta d body (declared_if_met (entry_ids d.stack) body.entries met) (body_reads doc.linked meta doc.body body is))
+    (function_language doc.linked meta d body known.all known.more known.fixed (body_reads doc.linked meta doc.body body is))
 parts_language meta doc (Err r) (Ok body) p said is closes = absurd closes
 parts_language meta doc (Ok d) (Err s) p said is closes = absurd closes
 parts_language meta doc (Err r) (Err s) p said is closes = absurd closes

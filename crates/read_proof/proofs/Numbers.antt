@@ -1,8 +1,9 @@
 -- The numbers that a document declares are within their limits: those of stack entries, so of slots and objects, and those of substitutions.
-use Rattle.std.proofs.Common.{◌≡◌, ℕ, ◌≤◌, Bool, true, false, cond, ◌&&◌, ◌||◌, not, eqb, List, [], ◌∷◌, ◌++◌, map, All, Option, Some, None, Result, Ok, Err}
-use Rattle.std.proofs.Common.{subst, arith}
+use Rattle.std.proofs.Common.{◌≡◌, ℕ, ◌+◌, ◌≤◌, Bool, true, false, cond, ◌&&◌, ◌||◌, not, eqb, List, [], ◌∷◌, ◌++◌, map, All, Option, Some, None, Result, Ok}
+use Rattle.std.proofs.Common.{Err}
+use Rattle.std.proofs.Common.{sym, subst, arith}
 use Rattle.std.specs.Prelude.{IfSome, codes, is_none, is_some}
-use Rattle.std.proofs.lemmas.List.Elements.{All-nil, All-push, All-head, All-tail, All-map, All-weaker}
+use Rattle.std.proofs.lemmas.List.Elements.{All-nil, All-cons, All-push, All-head, All-tail, All-map, All-weaker, All-append}
 use Rattle.read_refusal.specs.declared.first.Refusal.{Refusal}
 use Rattle.read_refusal.specs.declared.kind.RefusalKind.{RefusalKind}
 use Rattle.read_refusal.specs.declared.kind.RefusalKind.TheVariants.{StackObject}
@@ -14,17 +15,19 @@ use Rattle.mir_func.specs.declared.debug_substitution.OperandPair.{OperandPair}
 use Rattle.mir_func.specs.declared.object.Object.{Object}
 use Rattle.mir_func.specs.Objects.{local_count}
 use Rattle.mir_func.specs.Resolve.{entry_of}
-use Rattle.base_ids.specs.Limits.{MAX_NUMBER}
+use Rattle.base_ids.specs.Limits.{MAX_NUMBER, FIXED}
 use Rattle.read_lexer.specs.declared.line.Line.{Line}
 use Rattle.read_declarations.specs.declared.declarations.Declarations.{Declarations}
 use Rattle.read_declarations.specs.declared.entry.MappingEntry.{MappingEntry}
 use Rattle.read_declarations.specs.declared.entry.MappingField.{MappingField}
+use Rattle.read_declarations.specs.declared.fixed.FixedEntry.{FixedEntry}
 use Rattle.read_declarations.specs.declared.stack.StackEntry.{StackEntry}
 use Rattle.read_declarations.specs.declared.stack.StackRead.{StackRead}
 use Rattle.read_declarations.specs.declared.stream.YamlToken.{YamlToken}
 use Rattle.read_declarations.specs.declared.substitutions.SubstitutionsRead.{SubstitutionsRead}
 use Rattle.read_declarations.specs.Declarations.{refusal_of, declared_of, checked, declarations_of}
 use Rattle.read_declarations.specs.Field.{value_at, number_in, needed, given, negated, is_variable_sized}
+use Rattle.read_declarations.specs.Fixed.{fixed_ids}
 use Rattle.read_declarations.specs.List.{list_of}
 use Rattle.read_declarations.specs.Stack.{is_alignment, entry_with, unsized, stack_entry_of, judged, stack_behind, stack_read, entry_offsets, without_offset}
 use Rattle.read_declarations.specs.Stack.{shared}
@@ -32,7 +35,10 @@ use Rattle.read_declarations.specs.Stream.{text_at}
 use Rattle.read_declarations.specs.Substitutions.{pair_of, substitution_with, substitution_of, substituted, substitutions_behind}
 use Rattle.read_program.specs.read_body.declared.stack_entry_kind.ObjectLayout.{ObjectLayout}
 use Rattle.read_program.specs.read_body.StackEntryKind.{is_stack_object, with_slot, slots_behind, slots_of, laid_at, with_object, objects_behind, local_block, objects_of}
-use Rattle.read_proof.specs.Read.{PairIsLimited, EntryIsLimited}
+use Rattle.read_program.specs.read_body.FixedObjects.{fixed_object, area_with}
+use Rattle.read_program.specs.Closing.{all_objects}
+use Rattle.read_program.proofs.FixedObjects.{with_is}
+use Rattle.read_proof.specs.Read.{PairIsLimited, EntryIsLimited, IsObjectNumber}
 use Rattle.read_proof.proofs.Nodes.{Small, one_of, integer_small}
 
 -- ---- fields
@@ -166,7 +172,7 @@ declares_small doc d e = checked_small (refusal_of doc) (declared_of doc) d e (d
 -- ---- objects
 
 abbrev IsSmall : Object → Type 0
-IsSmall o = o.id ≤ MAX_NUMBER
+IsSmall o = IsObjectNumber o.id o.fixed_offset
 
 object_more : (b : Bool) (laid : ObjectLayout) (o : Object) (end : ℕ) → IsSmall o → All IsSmall laid.objects →
     All IsSmall (cond b (record { objects = laid.objects ++ o ∷ []; end = end }) laid).objects
@@ -180,9 +186,22 @@ objects_more named block laid [] small all = all
 objects_more named block laid (e ∷ es) small all = objects_more named block (with_object named block laid e) es (All-tail HasSmallId e es small)
     (object_more (is_stack_object named e) laid (laid_at block laid.end e) _ (All-head HasSmallId e es small) all)
 
--- the objects among stack entries with small numbers
-pub objects_small : (named : List ℕ) (es : List StackEntry) → All HasSmallId es → All IsSmall (objects_of named es).objects
-objects_small named es small = objects_more named (local_block es) (record { objects = []; end = local_block es }) es small (All-nil IsSmall)
+own_small : (named : List ℕ) (es : List StackEntry) → All HasSmallId es → All IsSmall (objects_of named es).objects
+own_small named es small = objects_more named (local_block es) (record { objects = []; end = local_block es }) es small (All-nil IsSmall)
+
+fixed_small : (area : ℕ) (es : List FixedEntry) → All (λ n. (FIXED ≤ n) × (n ≤ FIXED + MAX_NUMBER)) (fixed_ids es) → All IsSmall (map (fixed_object area) es)
+fixed_small area [] great = All-nil IsSmall
+fixed_small area (e ∷ es) great =
+    All-cons IsSmall (fixed_object area e) (map (fixed_object area) es) (All-head (λ n. (FIXED ≤ n) × (n ≤ FIXED + MAX_NUMBER)) e.id (fixed_ids es) great)
+    (fixed_small area es (All-tail (λ n. (FIXED ≤ n) × (n ≤ FIXED + MAX_NUMBER)) e.id (fixed_ids es) great))
+
+-- the objects of stack entries with small numbers and of fixed objects
+pub objects_small : (named : List ℕ) (es : List StackEntry) (fixed : List FixedEntry) → All HasSmallId es →
+    All (λ n. (FIXED ≤ n) × (n ≤ FIXED + MAX_NUMBER)) (fixed_ids fixed) → All IsSmall (all_objects named es fixed)
+objects_small named es fixed small great =
+    let own = (objects_of named es).objects in
+    subst (All IsSmall) (sym (with_is own fixed))
+    (All-append IsSmall own (map (fixed_object (area_with own fixed)) fixed) (own_small named es small) (fixed_small (area_with own fixed) fixed great))
 
 -- ---- slots
 

@@ -1,5 +1,5 @@
 -- A program that was read is as it was read.
-use Rattle.std.proofs.Common.{◌≡◌, ℕ, ◌<◌, ◌≤◌, Bool, true, false, cond, ◌&&◌, List, [], ◌∷◌, ◌++◌, length, All, Option, Some, None, Result, Ok, Err}
+use Rattle.std.proofs.Common.{◌≡◌, ℕ, ◌+◌, ◌-◌, ◌<◌, ◌≤◌, Bool, true, false, cond, ◌&&◌, List, [], ◌∷◌, ◌++◌, length, All, Option, Some, None, Result, Ok, Err}
 use Rattle.std.proofs.Common.{refl, sym, subst}
 use Rattle.std.proofs.Common.{inl, inr, arith}
 use Rattle.std.specs.Prelude.{is_some, IfSome}
@@ -21,10 +21,13 @@ use Rattle.mir_func.specs.declared.debug_substitution.DebugSubstitution.{DebugSu
 use Rattle.mir_func.specs.declared.item.Item.{Item}
 use Rattle.mir_func.specs.declared.item.ItemKind.{ItemKind}
 use Rattle.mir_func.specs.declared.location.Loc.{Loc}
+use Rattle.base_ids.specs.Limits.{MAX_NUMBER, FIXED}
+use Rattle.mir_func.specs.Limits.{MAX_SLOTS}
 use Rattle.mir_func.specs.Sound.{AreApart, AllItems, IsSound, HasForm}
 use Rattle.mir_pool.specs.Pool.{constant_ids}
 use Rattle.read_declarations.specs.declared.declarations.Declarations.{Declarations}
 use Rattle.read_declarations.specs.Declarations.{declarations_of}
+use Rattle.read_declarations.specs.Fixed.{fixed_ids}
 use Rattle.read_program.specs.read_item.Debug.{inlined_at_node}
 use Rattle.read_program.specs.read_body.declared.body.Body.{Body}
 use Rattle.read_program.specs.read_body.Body.{blocks_of}
@@ -36,7 +39,7 @@ use Rattle.read_program.specs.declared.error.ParseError.{ParseError}
 use Rattle.read_program.specs.declared.program.Program.{Program}
 use Rattle.read_program.specs.Objects.{kind_as, blocks_as}
 use Rattle.read_program.specs.Pool.{are_known}
-use Rattle.read_program.specs.Closing.{entry_ids, parts_of, function_of, ParsesParts, Parses}
+use Rattle.read_program.specs.Closing.{entry_ids, known_ids, parts_of, closing_cause, function_of, ParsesParts, Parses}
 use Rattle.read_program.specs.BodyLines.{body_of}
 use Rattle.read_program.specs.Program.{MAX_FUNCTIONS, Goes, too_many, FunctionsFrom, program_of}
 use Rattle.mir_printer.specs.Printable.{IsPrintable}
@@ -45,9 +48,10 @@ use Rattle.read_proof.specs.Read.{declared_in, EntryIsLimited, LocationsAreLimit
 use Rattle.read_program.proofs.Bodies.{IsReadBlock, IsReadBody}
 use Rattle.read_program.proofs.Comes.{EndsFromLine, body_reads}
 use Rattle.read_program.proofs.Entries.{declared_if_met}
-use Rattle.read_program.proofs.Frames.{objects_unfixed}
+use Rattle.read_program.proofs.FixedObjects.{known_entry, known_fixed}
+use Rattle.read_program.proofs.Stack.{IsReadFixed, declared_stack, declared_fixed, entries_low}
 use Rattle.read_program.proofs.Keeps.{keeps_item}
-use Rattle.read_proof.proofs.Kept.{IsKept, item_kept}
+use Rattle.read_proof.proofs.Kept.{AllEntries, AllFixed, IsKept, item_kept}
 use Rattle.read_proof.proofs.Labels.{ids_small, blocks_small}
 use Rattle.read_proof.proofs.Nodes.{Small, IsLimited, node_limited}
 use Rattle.read_proof.proofs.Numbers.{DeclaresSmall, declares_small, objects_small, slots_small}
@@ -62,18 +66,40 @@ all_declared true true c e = refl
 all_declared true false c e = absurd cc
 all_declared false b c e = absurd cc
 
-module _ (linked : Bool) (meta : Maps) (d : Declarations) (body : Body) (all : (n : ℕ) → is_met n body.entries ≡ true →
-    is_met n (entry_ids d.stack) ≡ true) where
+-- what is declared of the stack entries and fixed objects that lines name
+pub record IsClosed (d : Declarations) (body : Body) : Type 0 where
+  pub all : AllEntries d.stack body.entries
+  pub more : AllFixed d.fixed body.entries
+  pub fixed : IsReadFixed (MAX_SLOTS - length d.stack) d.fixed
+
+pub closed_reads : (doc : FunctionDocument) (d : Declarations) (body : Body) → declarations_of doc ≡ Ok d → closing_cause d body ≡ None → IsClosed d body
+closed_reads doc d body said none =
+    let met = all_declared (blocks_go_to body.ids (blocks_of body)) (all_met (known_ids d) body.entries)
+    (are_known (constant_ids d.pool) (blocks_of body) && is_some (parts_of body.objects d.stack d.fixed (blocks_of body))) none in
+    let known = declared_if_met (known_ids d) body.entries met in
+    let fixed = declared_fixed doc d said in
+    let great = All-weaker (λ n. (FIXED ≤ n) × (n ≤ FIXED + MAX_NUMBER)) (λ n. FIXED ≤ n) (λ n is. is.0) (fixed_ids d.fixed) fixed.great in
+    record {
+      all = λ n small m. known_entry n (entry_ids d.stack) d.fixed great small (known n m);
+      more = λ n high m. known_fixed n (entry_ids d.stack) d.fixed (entries_low (declared_stack doc d said)) high (known n m);
+      fixed = fixed;
+    }
+
+module _ (linked : Bool) (meta : Maps) (d : Declarations) (body : Body) (all : AllEntries d.stack body.entries) (more : AllFixed d.fixed body.entries)
+    (fixed : IsReadFixed (MAX_SLOTS - length d.stack) d.fixed) where
   abbrev ids : List ℕ
   ids = ids_of_objects body.objects d.stack
 
+  great : All (λ n. FIXED ≤ n) (fixed_ids d.fixed)
+  great = All-weaker (λ n. (FIXED ≤ n) × (n ≤ FIXED + MAX_NUMBER)) (λ n. FIXED ≤ n) (λ n is. is.0) (fixed_ids d.fixed) fixed.great
+
   abbrev Kept : ItemKind → Loc → Type 0
-  Kept = IsKept linked meta body.objects d.stack body.entries all
+  Kept = IsKept linked meta body.objects d.stack d.fixed body.entries all more great
 
   kept_item : (kind : ItemKind) (loc : Loc) → EndsFromLine linked meta body kind loc → Kept (kind_as ids kind) loc
   kept_item kind loc from =
       let keeps = keeps_item linked meta body kind loc from in
-      item_kept linked meta body.objects d.stack body.entries all kind loc keeps.item keeps.object
+      item_kept linked meta body.objects d.stack d.fixed body.entries all more great kind loc keeps.item keeps.object
 
   pub function_language : IsReadBody (EndsFromLine linked meta body) body → AllItems (λ i. IsOfLanguage linked i.kind) (function_of d body).blocks
   function_language is =
@@ -85,7 +111,6 @@ module _ (linked : Bool) (meta : Maps) (d : Declarations) (body : Body) (all : (
       IsReadFunction meta (function_of d body)
   function_reads is sound small declares = record {
     sound = sound;
-    unfixed = objects_unfixed body.objects d.stack;
     read = record {
       apart = subst AreApart (sym (ids_as ids (blocks_of body))) is.apart;
       items = All-weaker (IsReadBlock Kept) _ (λ b r. r.items) blocks kept;
@@ -96,7 +121,7 @@ module _ (linked : Bool) (meta : Maps) (d : Declarations) (body : Body) (all : (
     printable = each (IsPrintable (declared_in meta (function_of d body))) (λ i k. record { kind = k.printable; loc = k.told });
     few_items = omega (arith, items_as ids (blocks_of body), is.counted, is.few);
     ids = blocks_small ids (blocks_of body) (subst (λ (ns : List ℕ). All Small ns) is.ids small);
-    objects = objects_small body.objects d.stack declares.stack;
+    objects = objects_small body.objects d.stack d.fixed declares.stack fixed.great;
     slots = slots_small body.objects d.stack declares.stack;
   } where
     blocks : List Block
@@ -116,12 +141,11 @@ record IsRead (meta : Maps) (p : Parsed) : Type 0 where
 parts_read : (meta : Maps) (doc : FunctionDocument) (declared : Result Declarations Refusal) (body : Result Body Refusal) (p : Parsed) →
     declarations_of doc ≡ declared → body_of doc.linked meta doc.body ≡ body → ParsesParts doc.closed declared body (Ok p) → IsRead meta p
 parts_read meta doc (Ok d) (Ok body) p said is closes =
-    let met = all_declared (blocks_go_to body.ids (blocks_of body)) (all_met (entry_ids d.stack) body.entries)
-    (are_known (constant_ids d.pool) (blocks_of body) && is_some (parts_of body.objects d.stack (blocks_of body))) closes.0 in
+    let known = closed_reads doc d body said closes.0 in
     let declares = declares_small doc d said in
     record {
       function = subst (IsReadFunction meta) (sym closes.1)
-          (function_reads doc.linked meta d body (declared_if_met (entry_ids d.stack) body.entries met) (body_reads doc.linked meta doc.body body is)
+          (function_reads doc.linked meta d body known.all known.more known.fixed (body_reads doc.linked meta doc.body body is)
           (sound_if_ends_well meta doc d body said is closes.0 closes.3) (ids_small doc.linked meta doc.body body is) declares);
       substitutions = subst (λ (subs : List DebugSubstitution). All EntryIsLimited subs) (sym closes.2) declares.substitutions;
     }

@@ -1,13 +1,13 @@
 -- Invariants of every function and program that was read from a text.
-use Rattle.std.specs.Prelude.{ℕ, ◌<◌, ◌≤◌, Bool, is_some, IfSome, List, All, length, Option, Some, Ok}
+use Rattle.std.specs.Prelude.{ℕ, ℤ, ◌+◌, ◌<◌, ◌≤◌, Bool, is_some, IfSome, List, All, length, Option, Some, None, Ok}
 use Rattle.read_metadata.specs.Maps.{Maps}
 use Rattle.read_metadata.specs.Metadata.{location_at}
 use Rattle.mir_func.specs.declared.debug_substitution.DebugSubstitution.{DebugSubstitution}
 use Rattle.mir_func.specs.declared.debug_substitution.OperandPair.{OperandPair}
 use Rattle.mir_func.specs.Function.{Function}
-use Rattle.mir_func.specs.Objects.{object_of, HasNoFixed}
+use Rattle.mir_func.specs.Objects.{object_of}
 use Rattle.mir_func.specs.Sound.{AllItems, items_of, IsSound, HasForm}
-use Rattle.base_ids.specs.Limits.{MAX_NUMBER}
+use Rattle.base_ids.specs.Limits.{MAX_NUMBER, FIXED}
 use Rattle.sem_mir.specs.Follow.{IsRead}
 use Rattle.read_program.specs.read_item.Debug.{inlined_at_node}
 use Rattle.read_program.specs.read_body.Limits.{MAX_ITEMS}
@@ -39,19 +39,23 @@ LocationsAreLimited meta = (n : ℕ) → IfSome (inlined_at_node (location_at me
 
 -- ---- functions
 
--- A function that was read: it is well formed, no object is fixed, each item has its own position as origin, the silent position of each block is the end
+-- the number of a stack object, or of a fixed one, is within its limits
+abbrev pub IsObjectNumber : (id : ℕ) → (fixed : Option ℤ) → Type 0
+IsObjectNumber id None = id ≤ MAX_NUMBER
+IsObjectNumber id (Some d) = (FIXED ≤ id) × (id ≤ FIXED + MAX_NUMBER)
+
+-- A function that was read: it is well formed, each item has its own position as origin, the silent position of each block is the end
 -- of its items, each instruction has the form of its opcode, numbers and counts are within their limits, and the printed text of each
 -- item determines its kind and its debug location.
 pub record IsReadFunction (meta : Maps) (f : Function) : Type 0 where
   pub sound : IsSound f
-  pub unfixed : HasNoFixed f.objects
   pub read : IsRead f.blocks
   pub form : AllItems (λ i. HasForm i.kind) f.blocks
   pub limited : AllItems (λ i. KindIsLimited i.kind × LocIsLimited i.loc) f.blocks
   pub printable : AllItems (IsPrintable (declared_in meta f)) f.blocks
   pub few_items : length (items_of f.blocks) ≤ MAX_ITEMS
   pub ids : All (λ b. b.id ≤ MAX_NUMBER) f.blocks
-  pub objects : All (λ o. o.id ≤ MAX_NUMBER) f.objects
+  pub objects : All (λ o. IsObjectNumber o.id o.fixed_offset) f.objects
   pub slots : All (λ n. n ≤ MAX_NUMBER) f.slots
 
 -- A program that was read: it has at most MAX_FUNCTIONS functions, all as read, and the numbers of their substitutions and of the metadata's locations are

@@ -239,7 +239,7 @@ last_placed (b ∷ c ∷ bs) is = last_placed (c ∷ bs) is
 
 one_declared : (declared : List ℕ) (o : Operand) (rest : List ℕ) → NamesAmong declared o → all_met declared rest ≡ true →
     all_met declared (cons_option (entry_of (operand_form o)) rest) ≡ true
-one_declared declared (Slot n) rest is all = and_from (is_met n declared) (all_met declared rest) is all
+one_declared declared (Slot n) rest is all = and_from (is_met n declared) (all_met declared rest) is.1 all
 one_declared declared (Object n) rest is all = and_from (is_met n declared) (all_met declared rest) is all
 one_declared declared _ rest is all = all
 
@@ -250,7 +250,7 @@ operands_declared declared (o ∷ os) all = one_declared declared o (entries_of 
 
 named_weaker : (entries declared : List ℕ) → ((n : ℕ) → is_met n entries ≡ true → is_met n declared ≡ true) → (o : Operand) → NamesAmong entries o →
     NamesAmong declared o
-named_weaker entries declared each (Slot n) is = each n is
+named_weaker entries declared each (Slot n) is = (is.0, each n is.1)
 named_weaker entries declared each (Object n) is = each n is
 named_weaker entries declared each _ is = is
 

@@ -240,7 +240,7 @@ frames_read_back named again es declared same = record {
       (λ o is. (ap (λ (b : Bool). is_some o.local_offset || (not (eqb o.size 8) || b)) (same o.id) ∙ is.0, is.1)) os objects
 
   read : All IsReadEntry es
-  read = All-weaker IsEntry IsReadEntry (λ e is. record { size = is.size; aligned = is.aligned; local = is.local }) es declared.each
+  read = All-weaker IsEntry IsReadEntry (λ e is. record { id = is.id; size = is.size; aligned = is.aligned; local = is.local }) es declared.each
 
   laid : AreLaid os
   laid = objects_laid named es read declared.several

@@ -1,7 +1,9 @@
 -- What is known of each item of a function that was read, and what is left of it without its debug items.
-use Rattle.std.proofs.Common.{◌≡◌, ℕ, ◌≤◌, Bool, true, false, cond, List, [], ◌∷◌, length, All, Option, Some, None, Result, Ok, Err}
+use Rattle.std.proofs.Common.{◌≡◌, ℕ, ◌≤◌, Bool, true, false, cond, ◌||◌, List, [], ◌∷◌, length, All, Option, Some, None, Result, Ok, Err}
 use Rattle.std.proofs.Common.{refl, sym, ap, subst, ◌∙◌, arith}
 use Rattle.std.specs.Prelude.{IsTrue}
+use Rattle.std.specs.List.{list_any}
+use Rattle.std.proofs.lemmas.Bool.{false≢true}
 use Rattle.std.proofs.lemmas.List.{length-map}
 use Rattle.std.proofs.lemmas.List.Elements.{All-map, All-weaker}
 use Rattle.read_refusal.specs.declared.kind.RefusalKind.{RefusalKind}
@@ -18,6 +20,8 @@ use Rattle.mir_func.specs.declared.location.Loc.{Loc}
 use Rattle.mir_func.specs.Sound.{IsNotPointer}
 use Rattle.read_line.specs.declared.form.BodyLine.TheVariants.{Item as OfItem}
 use Rattle.read_line.specs.declared.form.ItemForm.{ItemForm}
+use Rattle.read_line.specs.declared.form.OperandForm.{OperandForm}
+use Rattle.read_line.specs.declared.form.OperandForm.TheVariants as form
 use Rattle.read_line.specs.Body.{body_line_of}
 use Rattle.read_item.specs.declared.judged.Judged.TheVariants as judged_as
 use Rattle.read_item.specs.declared.judged.JudgedItem.{JudgedItem}
@@ -35,11 +39,13 @@ use Rattle.read_item.specs.Opcode.{opcode_of, is_read}
 use Rattle.read_body.specs.FirstUseOrder.{is_met}
 use Rattle.read_program.specs.Limited.{IsLimited, IsOperandOf, LocIsLimited}
 use Rattle.read_program.specs.Objects.{operand_as, operands_as, instr_as}
-use Rattle.read_program.proofs.Forms.{line_fits}
+use Rattle.read_program.proofs.Forms.{AllOf, FormFits, line_fits}
 use Rattle.read_program.proofs.Items.{IsReadItem, item_reads}
 use Rattle.read_program.proofs.Judged.{code_line, debug_line, judged_line, Judges, judges_one}
-use Rattle.read_program.proofs.Operands.{NamesAmong}
+use Rattle.read_program.proofs.Lists.{both}
+use Rattle.read_program.proofs.Operands.{NamesAmong, small_text}
 use Rattle.read_program.proofs.Printed.{form_kept, renamed}
+use Rattle.readback_items.specs.Again.{is_fixed}
 use Rattle.readback_items.specs.Code.{judged_instruction, IsCode}
 use Rattle.readback_items.proofs.Again.{code_is_judged_again}
 use Rattle.readback_items.proofs.Few.{few_operands}
@@ -127,6 +133,14 @@ pub record IsKnownItem (entries : List ℕ) (kind : ItemKind) (loc : Loc) : Type
   pub kind_is : KnownKind entries kind
   pub place : LocIsLimited loc
 
+-- no fixed stack object is read but in the linked language
+plain_forms : (os : List OperandForm) → AllOf (FormFits false) os → list_any is_fixed os ≡ false
+plain_forms [] fits = refl
+plain_forms (o ∷ os) fits = ap (λ (b : Bool). b || list_any is_fixed os) (by o fits.0) ∙ plain_forms os fits.1 where
+  by : (x : OperandForm) → FormFits false x → is_fixed x ≡ false
+  by (form.Fixed n) other = absurd (false≢true other)
+  by x fits = refl
+
 pub item_known : (meta : Maps) (end : List ℕ) (kind : ItemKind) (loc : Loc) (line : ItemForm) (j : JudgedItem) (text : List ℕ) →
     body_line_of false text ≡ Ok (OfItem line) → Judges (judged false meta line) j → j.kind ≡ kind → j.loc ≡ loc →
     ((n : ℕ) → is_met n j.entries ≡ true → is_met n end ≡ true) → IsKnownItem end kind loc
@@ -142,7 +156,7 @@ item_known meta end kind loc line j text says means kind_is loc_is entries =
         let is = meant line c k meta j (judges_one meta line j means) e in
         let all = subst (λ (x : ItemKind). IsReadItem false meta end x j.loc) e read in
         record {
-          again = λ ids. code_is_judged_again is.op line c ids is.is;
+          again = λ ids. code_is_judged_again is.op line c ids (plain_forms line.operands (line_fits false text line says).operands) is.is;
           form = all.form;
           limited = all.limited.0;
           language = all.language.0;
@@ -158,21 +172,21 @@ item_known meta end kind loc line j text says means kind_is loc_is entries =
 operand_limited : (ids : List ℕ) (o : Operand) → IsLimited o → IsLimited (operand_as ids o)
 operand_limited ids (Slot n) small = by (is_met n ids) where
   by : (b : Bool) → IsLimited (cond b (Object n) (Slot n))
-  by true = small
+  by true = small_text n small
   by false = small
 operand_limited ids _ small = small
 
-operand_language : (ids : List ℕ) (o : Operand) → IsOperandOf false o → IsOperandOf false (operand_as ids o)
+operand_language : (ids : List ℕ) (o : Operand) → IsOperandOf false o × IsLimited o → IsOperandOf false (operand_as ids o)
 operand_language ids (Slot n) is = by (is_met n ids) where
   by : (b : Bool) → IsOperandOf false (cond b (Object n) (Slot n))
-  by true = tt
+  by true = λ great. absurd (omega (arith, is.1, great))
   by false = tt
-operand_language ids _ is = is
+operand_language ids _ is = is.0
 
 operand_named : (ids entries : List ℕ) (o : Operand) → NamesAmong entries o → NamesAmong entries (operand_as ids o)
 operand_named ids entries (Slot n) is = by (is_met n ids) where
   by : (b : Bool) → NamesAmong entries (cond b (Object n) (Slot n))
-  by true = is
+  by true = is.1
   by false = is
 operand_named ids entries _ is = is
 
@@ -194,7 +208,9 @@ module _ (ids entries : List ℕ) (c : Instruction) (is : IsKnownCode entries c)
   code_limited = all_as IsLimited ids c is.form (operand_limited ids) is.limited
 
   pub code_language : All (IsOperandOf false) (instr_as ids c).operands
-  code_language = all_as (IsOperandOf false) ids c is.form (operand_language ids) is.language
+  code_language = subst (λ (i : Instruction). All (IsOperandOf false) i.operands) (sym (renamed ids c is.form))
+      (All-map (IsOperandOf false) (operand_as ids) c.operands (All-weaker (λ o. IsOperandOf false o × IsLimited o)
+      (λ o. IsOperandOf false (operand_as ids o)) (operand_language ids) c.operands (both (IsOperandOf false) IsLimited c.operands is.language is.limited)))
 
   pub code_read : IsTrue (is_read false (instr_as ids c).op)
   code_read = subst (λ (i : Instruction). IsTrue (is_read false i.op)) (sym (renamed ids c is.form)) is.read

@@ -24,7 +24,9 @@ use Rattle.mir_func.specs.Strip.{stripped_block, stripped}
 use Rattle.mir_func.proofs.Stripping.{stripped_sound}
 use Rattle.mir_pool.specs.Pool.{constant_ids}
 use Rattle.read_declarations.specs.declared.declarations.Declarations.{Declarations}
-use Rattle.read_declarations.specs.Declarations.{fixed_refusal, checked, declarations_of}
+use Rattle.read_declarations.specs.Declarations.{checked, declarations_of}
+use Rattle.read_declarations.specs.Fixed.{fixed_refusal}
+use Rattle.read_declarations.proofs.PoolEntries.{plain_fixed}
 use Rattle.read_declarations.specs.FlowMapping.{entries_from}
 use Rattle.read_declarations.specs.List.{list_in}
 use Rattle.read_declarations.specs.Stream.{stream_from}
@@ -39,7 +41,7 @@ use Rattle.read_program.specs.declared.closing.Parts.{Parts}
 use Rattle.read_program.specs.declared.error.ParseError.{ParseError}
 use Rattle.read_program.specs.BodyLines.{body_of}
 use Rattle.read_program.specs.Pool.{are_known}
-use Rattle.read_program.specs.Closing.{entry_ids, laid_out, stays, parts_of, closing_cause, function_of, EndWell, Closes, ParsesParts, Parses}
+use Rattle.read_program.specs.Closing.{entry_ids, known_ids, laid_out, stays, parts_of, closing_cause, function_of, EndWell, Closes, ParsesParts, Parses}
 use Rattle.read_program.specs.Objects.{instr_as, kind_as, item_as, block_as, blocks_as, blocks_stay}
 use Rattle.read_program.proofs.KnownConstants.{plain_known}
 use Rattle.read_program.proofs.Bodies.{IsReadBlock, IsReadBody}
@@ -95,8 +97,8 @@ texts_are n (t ∷ ts) = ap (λ (l : List (List ℕ)). t ∷ l) (texts_are (n + 
 
 pub record ClosesAll (d : Declarations) (body : Body) : Type 0 where
   pub branches : blocks_go_to body.ids (blocks_of body) ≡ true
-  pub entries : all_met (entry_ids d.stack) body.entries ≡ true
-  pub accesses : stays (laid_out body.objects d.stack (blocks_of body)) ≡ true
+  pub entries : all_met (known_ids d) body.entries ≡ true
+  pub accesses : stays (laid_out body.objects d.stack d.fixed (blocks_of body)) ≡ true
 
 pub parts_some : (b : Bool) (parts : Parts) → is_some (cond b (Some parts) None) ≡ b
 parts_some true parts = refl
@@ -104,19 +106,19 @@ parts_some false parts = refl
 
 pub closes_all : (d : Declarations) (body : Body) → closing_cause d body ≡ None → ClosesAll d body
 closes_all d body none =
-    by (blocks_go_to body.ids (blocks_of body)) (all_met (entry_ids d.stack) body.entries) (known && is_some parts) refl refl refl none where
+    by (blocks_go_to body.ids (blocks_of body)) (all_met (known_ids d) body.entries) (known && is_some parts) refl refl refl none where
       parts : Option Parts
-      parts = parts_of body.objects d.stack (blocks_of body)
+      parts = parts_of body.objects d.stack d.fixed (blocks_of body)
 
       known : Bool
       known = are_known (constant_ids d.pool) (blocks_of body)
 
-      by : (a b c : Bool) → blocks_go_to body.ids (blocks_of body) ≡ a → all_met (entry_ids d.stack) body.entries ≡ b → (known && is_some parts) ≡ c →
+      by : (a b c : Bool) → blocks_go_to body.ids (blocks_of body) ≡ a → all_met (known_ids d) body.entries ≡ b → (known && is_some parts) ≡ c →
           cond a (cond (b && c) None (Some StackObject)) (Some UnknownBlock) ≡ None → ClosesAll d body
       by true true true p q r e = record {
         branches = p;
         entries = q;
-        accesses = sym (parts_some (stays (laid_out body.objects d.stack (blocks_of body))) (laid_out body.objects d.stack (blocks_of body)))
+        accesses = sym (parts_some (stays (laid_out body.objects d.stack d.fixed (blocks_of body))) (laid_out body.objects d.stack d.fixed (blocks_of body)))
             ∙ (and_parts known (is_some parts) r).1;
       }
       by true true false p q r e = absurd cc
@@ -136,11 +138,30 @@ no_substitutions : substitutions_of [] ≡ record { entries = []; refused = None
 unfolding list_in entries_from stream_from substitutions_behind
 no_substitutions = refl
 
+-- declarations without fixed objects, which the linked language alone has
+abbrev pub unfixed : Declarations → Declarations
+unfixed d = record d { fixed = [] }
+
+pub unfixed_is : (doc : FunctionDocument) (d : Declarations) → declarations_of doc ≡ Ok d → doc.linked ≡ false → d ≡ unfixed d
+unfixed_is doc d declared plain =
+    let none = plain_fixed doc d declared plain in
+    λ i. record {
+      name = d.name;
+      stack = d.stack;
+      fixed = none i;
+      substitutions = d.substitutions;
+      pool = d.pool;
+      exposure = d.exposure;
+    }
+
 -- ---- a function
 
-module _ (meta : Maps) (doc : FunctionDocument) (d : Declarations) (body : Body) (p : Parsed) (declared : declarations_of doc ≡ Ok d)
-    (plain : doc.linked ≡ false) (read : body_of false meta doc.body ≡ Ok body) (closes : Closes doc.closed d body (Ok p))
-    (names : HasNamesOfBytes (function_of d body)) (again : Maps) (n : ℕ) where
+module _ (meta : Maps) (doc : FunctionDocument) (given : Declarations) (body : Body) (p : Parsed) (declared : declarations_of doc ≡ Ok (unfixed given))
+    (plain : doc.linked ≡ false) (read : body_of false meta doc.body ≡ Ok body) (closes : Closes doc.closed (unfixed given) body (Ok p))
+    (names : HasNamesOfBytes (function_of (unfixed given) body)) (again : Maps) (n : ℕ) where
+  abbrev d : Declarations
+  d = unfixed given
+
   abbrev ids : List ℕ
   ids = ids_of_objects body.objects d.stack
 
@@ -270,7 +291,7 @@ module _ (meta : Maps) (doc : FunctionDocument) (d : Declarations) (body : Body)
   frame = frames_read_back body.objects body2.objects d.stack entries same_named
 
   abbrev declared2 : Declarations
-  declared2 = record { name = d.name; stack = entries_again body.objects d.stack; substitutions = []; pool = []; exposure = Nothing }
+  declared2 = record { name = d.name; stack = entries_again body.objects d.stack; fixed = []; substitutions = []; pool = []; exposure = Nothing }
 
   abbrev ids2 : List ℕ
   ids2 = ids_of_objects body2.objects declared2.stack
@@ -293,7 +314,7 @@ module _ (meta : Maps) (doc : FunctionDocument) (d : Declarations) (body : Body)
       let stack = stacks_read_back (n + 2) f.slots f.objects frame.declared.each frame.declared.several frame.declared.apart
       frame.declared.few in
       λ i. checked (earlier (earlier (earlier (name i).refused (stack i).refused) (earlier (no_fixed i) (no_substitutions i).refused)) None)
-      (record { name = (name i).name; stack = (stack i).entries; substitutions = (no_substitutions i).entries; pool = []; exposure = Nothing })
+      (record { name = (name i).name; stack = (stack i).entries; fixed = []; substitutions = (no_substitutions i).entries; pool = []; exposure = Nothing })
 
   -- ---- its close
 
@@ -311,8 +332,8 @@ module _ (meta : Maps) (doc : FunctionDocument) (d : Declarations) (body : Body)
       (λ m met. frame.ids m (declared_if_met (entry_ids d.stack) body.entries closed.entries m met)) (instr_as ids c) o l
       (code_named ids body.entries c q)) bs knows)
 
-  accesses : is_some (parts_of body2.objects declared2.stack (blocks_of body2)) ≡ true
-  accesses = parts_some (stays (laid_out body2.objects declared2.stack (blocks_of body2))) (laid_out body2.objects declared2.stack (blocks_of body2))
+  accesses : is_some (parts_of body2.objects declared2.stack [] (blocks_of body2)) ≡ true
+  accesses = parts_some (stays (laid_out body2.objects declared2.stack [] (blocks_of body2))) (laid_out body2.objects declared2.stack [] (blocks_of body2))
       ∙ ((λ i. blocks_stay (frame.objects i) (blocks i)) ∙ all_stay f.objects (blocks_as ids bs) closed.accesses)
 
   constants : are_known [] (blocks_of body2) ≡ true
@@ -320,8 +341,8 @@ module _ (meta : Maps) (doc : FunctionDocument) (d : Declarations) (body : Body)
 
   none : closing_cause declared2 body2 ≡ None
   none = no_cause (blocks_go_to body2.ids (blocks_of body2)) (all_met (entry_ids declared2.stack) body2.entries)
-      (are_known [] (blocks_of body2) && is_some (parts_of body2.objects declared2.stack (blocks_of body2))) branches all_entries
-      (and_from (are_known [] (blocks_of body2)) (is_some (parts_of body2.objects declared2.stack (blocks_of body2))) constants accesses)
+      (are_known [] (blocks_of body2) && is_some (parts_of body2.objects declared2.stack [] (blocks_of body2))) branches all_entries
+      (and_from (are_known [] (blocks_of body2)) (is_some (parts_of body2.objects declared2.stack [] (blocks_of body2))) constants accesses)
 
   ends : EndWell (function_of declared2 body2).blocks
   ends = subst EndWell (sym blocks) (all_end sb bared.ends, last_placed sb bared.last)
@@ -335,45 +356,51 @@ module _ (meta : Maps) (doc : FunctionDocument) (d : Declarations) (body : Body)
       (subst (λ (r : Result Body Refusal). ParsesParts doc2.closed (Ok declared2) r answer) (sym reads.read)
       (none, sym same_function, refl, ends, refl, refl))
 
-module _ (meta : Maps) (doc : FunctionDocument) (d : Declarations) (body : Body) (p : Parsed) (declared : declarations_of doc ≡ Ok d)
-    (plain : doc.linked ≡ false) (read : body_of false meta doc.body ≡ Ok body) (closes : Closes doc.closed d body (Ok p))
-    (names : HasNamesOfBytes (function_of d body)) where
-  written : All IsWritable (items_of (left_blocks (ids_of_objects body.objects d.stack) (blocks_of body)))
-  written = blocks_left (ids_of_objects body.objects d.stack)
-      (λ k l. IsKnownItem body.entries k l × HasByteNames (kind_as (ids_of_objects body.objects d.stack) k)) IsWritable
+module _ (meta : Maps) (doc : FunctionDocument) (given : Declarations) (body : Body) (p : Parsed) (declared : declarations_of doc ≡ Ok (unfixed given))
+    (plain : doc.linked ≡ false) (read : body_of false meta doc.body ≡ Ok body) (closes : Closes doc.closed (unfixed given) body (Ok p))
+    (names : HasNamesOfBytes (function_of (unfixed given) body)) where
+  abbrev own : Declarations
+  own = unfixed given
+
+  written : All IsWritable (items_of (left_blocks (ids_of_objects body.objects own.stack) (blocks_of body)))
+  written = blocks_left (ids_of_objects body.objects own.stack)
+      (λ k l. IsKnownItem body.entries k l × HasByteNames (kind_as (ids_of_objects body.objects own.stack) k)) IsWritable
       (λ c k o l q. record {
-        kind = (code_limited (ids_of_objects body.objects d.stack) body.entries c q.0.kind_is, tt);
+        kind = (code_limited (ids_of_objects body.objects own.stack) body.entries c q.0.kind_is, tt);
         language = (
-          code_language (ids_of_objects body.objects d.stack) body.entries c q.0.kind_is,
-          code_read (ids_of_objects body.objects d.stack) body.entries c q.0.kind_is,
-          code_plain (ids_of_objects body.objects d.stack) body.entries c q.0.kind_is,
+          code_language (ids_of_objects body.objects own.stack) body.entries c q.0.kind_is,
+          code_read (ids_of_objects body.objects own.stack) body.entries c q.0.kind_is,
+          code_plain (ids_of_objects body.objects own.stack) body.entries c q.0.kind_is,
         );
         loc = q.0.place;
         names = q.1;
       })
       (blocks_of body)
-      (both_items (Good meta doc d body p declared plain read closes names meta 0) (NameBytes meta doc d body p declared plain read closes names meta 0)
+      (both_items (Good meta doc given body p declared plain read closes names meta 0) (NameBytes meta doc given body p declared plain read closes names meta 0)
       (blocks_of body)
-      (good meta doc d body p declared plain read closes names meta 0) (named meta doc d body p declared plain read closes names meta 0))
+      (good meta doc given body p declared plain read closes names meta 0) (named meta doc given body p declared plain read closes names meta 0))
 
-  is_document : IsDocument (document_of (stripped (function_of d body)))
+  is_document : IsDocument (document_of (stripped (function_of own body)))
   is_document =
-      let frame = frames_read_back body.objects body.objects d.stack (entries meta doc d body p declared plain read closes names meta 0) (λ m. refl) in
-      document_is d.name (function_of d body).slots (function_of d body).objects (left_blocks (ids_of_objects body.objects d.stack) (blocks_of body)) names.name
-      frame.declared.each (within meta doc d body p declared plain read closes names meta 0).ids written
+      let frame = frames_read_back body.objects body.objects own.stack (entries meta doc given body p declared plain read closes names meta 0) (λ m. refl) in
+      document_is own.name (function_of own body).slots (function_of own body).objects (left_blocks (ids_of_objects body.objects own.stack) (blocks_of body))
+      names.name
+      frame.declared.each (within meta doc given body p declared plain read closes names meta 0).ids written
 
-  read_again : IsReadAgain (record { func = function_of d body; subs = p.subs; pool = p.pool; exposure = p.exposure })
+  read_again : IsReadAgain (record { func = function_of own body; subs = p.subs; pool = p.pool; exposure = p.exposure })
   read_again = record {
     document = is_document;
-    parses = λ again n. function_read meta doc d body p declared plain read closes names again n;
+    parses = λ again n. function_read meta doc given body p declared plain read closes names again n;
   }
 
 by_parts : (meta : Maps) (doc : FunctionDocument) (p : Parsed) (d : Result Declarations Refusal) (body : Result Body Refusal) →
     declarations_of doc ≡ d → doc.linked ≡ false → body_of false meta doc.body ≡ body → ParsesParts doc.closed d body (Ok p) → HasNamesOfBytes p.func →
     IsReadAgain p
 by_parts meta doc p (Ok d) (Ok body) declared plain read closes names =
-    subst (λ (g : Function). IsReadAgain (record { func = g; subs = p.subs; pool = p.pool; exposure = p.exposure })) (sym closes.1)
-    (read_again meta doc d body p declared plain read closes (subst HasNamesOfBytes closes.1 names))
+    let same = unfixed_is doc d declared plain in
+    let own = subst (λ (x : Declarations). Closes doc.closed x body (Ok p)) same closes in
+    subst (λ (g : Function). IsReadAgain (record { func = g; subs = p.subs; pool = p.pool; exposure = p.exposure })) (sym own.1)
+    (read_again meta doc d body p (declared ∙ ap (λ (x : Declarations). Ok x) same) plain read own (subst HasNamesOfBytes own.1 names))
 by_parts meta doc p (Ok d) (Err s) declared plain read refused names = absurd refused
 by_parts meta doc p (Err r) (Ok body) declared plain read refused names = absurd refused
 by_parts meta doc p (Err r) (Err s) declared plain read refused names = absurd refused

@@ -1,11 +1,11 @@
 -- The lines of items and of labels.
 use Rattle.std.proofs.Common.{◌≡◌, ℕ, ◌+◌, ◌<◌, ◌≤◌, Bool, true, false, cond, not, ◌&&◌, List, [], ◌∷◌, ◌++◌, map, All, Option, Some, None}
-use Rattle.std.proofs.Common.{refl, sym, subst, arith, append_assoc}
+use Rattle.std.proofs.Common.{◌-◌, refl, sym, ap, subst, arith, append_assoc}
 use Rattle.std.specs.Prelude.{codes, filter, IfSome, IsTrue}
 use Rattle.std.specs.List.{list_all, flat_map}
 use Rattle.std.specs.Char.{is_ascii_uppercase}
 use Rattle.std.specs.Fmt.{decimal}
-use Rattle.std.proofs.lemmas.Bool.{and_parts, and_from, false≢true}
+use Rattle.std.proofs.lemmas.Bool.{and_parts, and_from, false≢true, lt-leb}
 use Rattle.std.proofs.lemmas.Bool.Decides.{nat_tests}
 use Rattle.std.proofs.lemmas.List.Elements.{All-head, All-tail, All-filter, All-weaker}
 use Rattle.rv64_instr.specs.declared.operand.Operand.{Operand}
@@ -13,7 +13,7 @@ use Rattle.rv64_instr.specs.declared.operand.Operand.TheVariants.{Def, Use, Impl
 use Rattle.rv64_instr.specs.declared.operand.Operand.TheVariants.{Outgoing, GlobalRegisters}
 use Rattle.rv64_instr.specs.Instruction.{Instruction}
 use Rattle.rv64_instr.specs.Mnemonic.{mnemonic_of}
-use Rattle.base_ids.specs.Limits.{MAX_NUMBER}
+use Rattle.base_ids.specs.Limits.{MAX_NUMBER, FIXED}
 use Rattle.read_lexer.specs.Bytes.{is_word_byte}
 use Rattle.read_token.specs.Word.{word_of}
 use Rattle.read_line.specs.Item.{is_upper}
@@ -26,12 +26,13 @@ use Rattle.read_program.specs.Limited.{KindIsLimited, LocIsLimited, IsOfLanguage
 use Rattle.read_program.proofs.Operands.{IsLimitedIn, all_in_language}
 use Rattle.readback_items.proofs.Said.{plain_text}
 use Rattle.read_program.proofs.Lists.{both}
-use Rattle.mir_printer.specs.Spelling.{comma_separated, is_bare, quoted_byte, symbol_text, register_text, operand_text, is_definition}
-use Rattle.mir_printer.specs.Spelling.{definitions_text}
+use Rattle.mir_printer.specs.Spelling.{comma_separated, is_bare, quoted_byte, symbol_text, register_text, object_text, operand_text}
+use Rattle.mir_printer.specs.Spelling.{is_definition, definitions_text}
 use Rattle.mir_printer.specs.Spelling.{uses_text, instruction_text, number_text, inlined_at_text, location_text, mark_text, phi_text, kind_text}
 use Rattle.readback_items.specs.Laws.{NameIsBytes, HasByteNames}
 use Rattle.readback_items.proofs.Cuts.{is_safe}
 use Rattle.readback_items.proofs.Opcodes.{is_opcode, mnemonics, named_uses}
+use Rattle.readback_items.proofs.Phrases.{plain_entry}
 use Rattle.readback_items.specs.Body.{label_line, item_line}
 use Rattle.readback_functions.specs.Printed.{BlockLinesArePrinted}
 use Rattle.readback_functions.proofs.Marks.{number_shows, register_shows, mark_shows, phi_shows}
@@ -51,6 +52,13 @@ symbol_shows (b ∷ bs) bytes = by (list_all is_bare (b ∷ bs)) refl where
   by true all = shows_behind (64 ∷ []) (b ∷ bs) refl (visible_shows b bs (all_visible is_bare bare_visible (b ∷ bs) all))
   by false all = shows_behind (64 ∷ []) (34 ∷ (flat_map quoted_byte (b ∷ bs) ++ 34 ∷ [])) refl (quoted_shows (b ∷ bs) bytes)
 
+object_shows : (n : ℕ) → IsLimitedIn false (Object n) → Shows (object_text n)
+object_shows n is =
+    let small = plain_entry n is in
+    let text : object_text n ≡ codes "%stack." ++ decimal n =
+    ap (λ (b : Bool). cond b (codes "%fixed-stack." ++ decimal (n - FIXED)) (codes "%stack." ++ decimal n)) (lt-leb FIXED n (omega (arith, small))) in
+    subst Shows (sym text) (shows_behind (codes "%stack.") (decimal n) refl (number_shows n small))
+
 operand_shows : (o : Operand) → IsLimitedIn false o → NameIsBytes o → Shows (operand_text o)
 operand_shows (Def r) small bytes = register_shows r small
 operand_shows (Use r) small bytes = register_shows r small
@@ -58,7 +66,7 @@ operand_shows (ImplicitDef r) small bytes = shows_behind (codes "implicit-def ")
 operand_shows (ImplicitUse r) small bytes = shows_behind (codes "implicit ") (register_text r) refl (register_shows r (omega (arith, small)))
 operand_shows (Imm i) small bytes = signed_shows i small
 operand_shows (Slot n) small bytes = shows_behind (codes "%stack.") (decimal n) refl (number_shows n small)
-operand_shows (Object n) small bytes = shows_behind (codes "%stack.") (decimal n) refl (number_shows n small)
+operand_shows (Object n) small bytes = object_shows n small
 operand_shows (Part half y) small bytes = absurd (false≢true small.0)
 operand_shows (Outgoing n) small bytes = absurd small
 operand_shows GlobalRegisters small bytes = absurd small

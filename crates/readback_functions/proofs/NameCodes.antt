@@ -23,7 +23,8 @@ use Rattle.read_item.specs.declared.judged.Judged.TheVariants as judged_as
 use Rattle.read_item.specs.declared.judged.JudgedItem.{JudgedItem}
 use Rattle.read_item.specs.declared.place.OperandKind.{OperandKind}
 use Rattle.read_item.specs.declared.place.OperandKind.TheVariants as place
-use Rattle.read_item.specs.Code.{number_of, used, stack_operand, number_operand, operand_at, before, joined, set_by, definition, definitions, placed, places_of}
+use Rattle.read_item.specs.Code.{number_of, used, stack_operand, fixed_number, fixed_operand, number_operand, operand_at, before, joined, set_by, definition}
+use Rattle.read_item.specs.Code.{definitions, placed, places_of}
 use Rattle.read_item.specs.Code.{operands_of, stand_in, half_operand, called, callee_register, callee_operand, placed_behind_callee}
 use Rattle.read_item.specs.Code.{has_implicit_callee, placed_by}
 use Rattle.read_item.specs.Judge.{judged}
@@ -67,6 +68,16 @@ stand_in_is place.Symbol x e = is_named (Symbol []) x e (All-nil (λ (b : ℕ). 
 stand_in_is place.Mask x e = is_named Mask x e tt
 stand_in_is place.Implicit x e = absurd cc
 
+fixed_is : (p : OperandKind) (n : ℕ) (x : Operand) → fixed_operand p n ≡ Some x → NameIsBytes x
+fixed_is place.Object n x e = is_named (Object (fixed_number n)) x e tt
+fixed_is place.Slot n x e = is_named (Object (fixed_number n)) x e tt
+fixed_is place.Register n x e = stand_in_is place.Register x e
+fixed_is place.Number n x e = stand_in_is place.Number x e
+fixed_is place.Block n x e = stand_in_is place.Block x e
+fixed_is place.Symbol n x e = stand_in_is place.Symbol x e
+fixed_is place.Mask n x e = stand_in_is place.Mask x e
+fixed_is place.Implicit n x e = stand_in_is place.Implicit x e
+
 half_is : (half : Half) (symbol : Linked) (addend : Option ℤ) (x : Operand) → half_operand half symbol addend ≡ Some x → NameIsBytes x
 half_is half symbol None x e = absurd cc
 half_is half symbol (Some i) x e = is_named (Part half (record { symbol = symbol; addend = i })) x e tt
@@ -79,7 +90,7 @@ operand_is : (p : OperandKind) (o : OperandForm) (x : Operand) → FormBytes o �
 operand_is p (form.Register r) x is e = used_is r.flag (number_of r.flag r.name) x e
 operand_is p (form.Integer i) x is e = number_is i x e
 operand_is p (form.Slot n) x is e = stack_is p n x e
-operand_is p (form.Fixed n) x is e = stand_in_is p x e
+operand_is p (form.Fixed n) x is e = fixed_is p n x e
 operand_is p (form.Part half a) x is e = half_is half a.symbol a.addend x e
 operand_is p (form.Address a) x is e = absurd cc
 operand_is p form.Literal x is e = absurd cc

@@ -14,10 +14,12 @@ use Rattle.read_line.specs.declared.form.OperandForm.TheVariants as form
 use Rattle.read_line.specs.declared.form.RegisterForm.{RegisterForm}
 use Rattle.read_item.specs.declared.place.OperandKind.{OperandKind}
 use Rattle.read_item.specs.declared.place.OperandKind.TheVariants as place
-use Rattle.read_item.specs.Code.{number_of, used, stand_in, stack_operand, number_operand, half_operand, operand_at, before, joined, set_by, definition}
+use Rattle.read_item.specs.Code.{number_of, used, stand_in, stack_operand, fixed_operand, number_operand, half_operand, operand_at, before, joined, set_by}
+use Rattle.read_item.specs.Code.{definition}
 use Rattle.read_item.specs.Code.{definitions, placed}
 use Rattle.read_item.specs.Code.{is_whole_slot, is_misplaced}
 use Rattle.read_item.specs.Place.{address, front, behind}
+use Rattle.readback_items.specs.Again.{is_fixed}
 
 -- the operand before others
 pub record Parts (o : Option Operand) (rest : Option (List Operand)) (x : Operand) (xs : List Operand) : Type 0 where
@@ -52,11 +54,12 @@ half_is half symbol (Some i) o e =
     let same : Part half (record { symbol = symbol; addend = i }) ≡ o = cc in subst IsHalf same tt
 
 -- a slot's place gives no object
-slot_gives : (f : OperandForm) (n : ℕ) → operand_at place.Slot f ≡ Some (Object n) → ⊥
-slot_gives (form.Register r) n e = no_object r.flag (number_of r.flag r.name) n e
-slot_gives (form.Integer i) n e = no_object_number i n e
-slot_gives (form.Part half a) n e = half_is half a.symbol a.addend (Object n) e
-slot_gives f n e = cc
+slot_gives : (f : OperandForm) (n : ℕ) → is_fixed f ≡ false → operand_at place.Slot f ≡ Some (Object n) → ⊥
+slot_gives (form.Register r) n plain e = no_object r.flag (number_of r.flag r.name) n e
+slot_gives (form.Integer i) n plain e = no_object_number i n e
+slot_gives (form.Part half a) n plain e = half_is half a.symbol a.addend (Object n) e
+slot_gives (form.Fixed m) n plain e = let no : true ≡ false = plain in cc
+slot_gives f n plain e = cc
 
 no_number : (flag : Flag) (r : Option ℕ) (i : ℤ) → used flag r ≡ Some (Imm i) → ⊥
 no_number flag None i e = cc
@@ -74,13 +77,14 @@ pub number_whole : (width : ℕ) (f : OperandForm) (i : ℤ) → operand_at plac
 number_whole width (form.Register r) i e in_place = absurd (no_number r.flag (number_of r.flag r.name) i e)
 number_whole width (form.Integer n) i e in_place = number_is width n i e
 number_whole width (form.Slot n) i e in_place = absurd cc
+number_whole width (form.Fixed n) i e in_place = absurd cc
 number_whole width (form.Part half a) i e in_place = absurd (half_is half a.symbol a.addend (Imm i) e)
 number_whole width f i e in_place = absurd cc
 
 -- the place of an object's address
-pub object_place : (slot : Bool) (f : OperandForm) (n : ℕ) → operand_at (address slot) f ≡ Some (Object n) → slot ≡ false
-object_place true f n e = absurd (slot_gives f n e)
-object_place false f n e = refl
+pub object_place : (slot : Bool) (f : OperandForm) (n : ℕ) → is_fixed f ≡ false → operand_at (address slot) f ≡ Some (Object n) → slot ≡ false
+object_place true f n plain e = absurd (slot_gives f n plain e)
+object_place false f n plain e = refl
 
 -- ---- the operands behind the registers that are set
 
@@ -126,11 +130,21 @@ no_set_stand_in place.Symbol rd e = cc
 no_set_stand_in place.Mask rd e = cc
 no_set_stand_in place.Implicit rd e = cc
 
+no_set_fixed : (p : OperandKind) (n rd : ℕ) → fixed_operand p n ≡ Some (Def rd) → ⊥
+no_set_fixed place.Object n rd e = cc
+no_set_fixed place.Slot n rd e = cc
+no_set_fixed place.Register n rd e = no_set_stand_in place.Register rd e
+no_set_fixed place.Number n rd e = no_set_stand_in place.Number rd e
+no_set_fixed place.Block n rd e = no_set_stand_in place.Block rd e
+no_set_fixed place.Symbol n rd e = no_set_stand_in place.Symbol rd e
+no_set_fixed place.Mask n rd e = no_set_stand_in place.Mask rd e
+no_set_fixed place.Implicit n rd e = no_set_stand_in place.Implicit rd e
+
 no_set : (p : OperandKind) (f : OperandForm) (rd : ℕ) → operand_at p f ≡ Some (Def rd) → ⊥
 no_set p (form.Register r) rd e = no_set_used r.flag (number_of r.flag r.name) rd e
 no_set p (form.Integer i) rd e = no_set_number i rd e
 no_set p (form.Slot n) rd e = no_set_stack p n rd e
-no_set p (form.Fixed n) rd e = no_set_stand_in p rd e
+no_set p (form.Fixed n) rd e = no_set_fixed p n rd e
 no_set p (form.Part half a) rd e = half_is half a.symbol a.addend (Def rd) e
 no_set p f rd e = cc
 
@@ -181,15 +195,16 @@ uses_of_load (d ∷ c ∷ ds) ps us (y ∷ z ∷ ys) zs rd n xs e read all =
 module _ (width : ℕ) (n : ℕ) (i : ℤ) (rest : List Operand) where
   -- the operands of a line from an address on
   pub object_access : (us : List OperandForm) (slot : Bool) → placed (address slot ∷ place.Number ∷ []) us ≡ Some (Object n ∷ Imm i ∷ rest) →
-      list_any is_misplaced (zip (address slot ∷ place.Number ∷ []) us) ≡ false → ((u v : OperandForm) (ws : List OperandForm) → us ≡ u ∷ v ∷ ws →
-      slot ≡ is_whole_slot width v) → moves_slot width i ≡ false
+      list_any is_misplaced (zip (address slot ∷ place.Number ∷ []) us) ≡ false → list_any is_fixed us ≡ false →
+      ((u v : OperandForm) (ws : List OperandForm) → us ≡ u ∷ v ∷ ws → slot ≡ is_whole_slot width v) → moves_slot width i ≡ false
   unfolding placed
-  object_access [] slot e in_place is = absurd cc
-  object_access (u ∷ []) slot e in_place is =
+  object_access [] slot e in_place plain is = absurd cc
+  object_access (u ∷ []) slot e in_place plain is =
       let p = parts (operand_at (address slot) u) (placed (place.Number ∷ []) []) (Object n) (Imm i ∷ rest) e in absurd (let more = p.rest_is in cc)
-  object_access (u ∷ v ∷ ws) slot e in_place is =
+  object_access (u ∷ v ∷ ws) slot e in_place plain is =
       let p = parts (operand_at (address slot) u) (placed (place.Number ∷ []) (v ∷ ws)) (Object n) (Imm i ∷ rest) e in
       let q = parts (operand_at place.Number v) (placed [] ws) (Imm i) rest p.rest_is in
       let behind_first = or_parts (is_misplaced (address slot, u)) (is_misplaced (place.Number, v) || list_any is_misplaced (zip [] ws)) in_place in
       let second = or_parts (is_misplaced (place.Number, v)) (list_any is_misplaced (zip [] ws)) behind_first.1 in
-      sym (number_whole width v i q.first second.0) ∙ sym (is u v ws refl) ∙ object_place slot u n p.first
+      let own = (or_parts (is_fixed u) (list_any is_fixed (v ∷ ws)) plain).0 in
+      sym (number_whole width v i q.first second.0) ∙ sym (is u v ws refl) ∙ object_place slot u n own p.first

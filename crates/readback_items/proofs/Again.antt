@@ -28,7 +28,7 @@ use Rattle.read_program.proofs.Judged.{code_line}
 use Rattle.read_program.proofs.Printed.{renamed}
 use Rattle.mir_printer.specs.Printable.{as_slot}
 use Rattle.readback_items.specs.Code.{judged_operands, judged_instruction}
-use Rattle.readback_items.specs.Again.{CodeIsJudgedAgain}
+use Rattle.readback_items.specs.Again.{is_fixed, CodeIsJudgedAgain}
 use Rattle.readback_items.proofs.Access.{parts, joined_some, uses_of_store, uses_of_load, object_access}
 use Rattle.readback_items.proofs.Same.{Stays, stays_more, implicits_stay, arguments_stay, results_stay, stays_judged, slot_named}
 use Rattle.readback_items.proofs.Same.{slots_judged, objects_judged, tails_stay}
@@ -37,19 +37,21 @@ use Rattle.readback_items.proofs.Same.{slots_judged, objects_judged, tails_stay}
 record FromLine (op : Op) (line : ItemForm) (os : List Operand) : Type 0 where
   operands : operands_of op line ≡ Some os
   in_place : list_any is_misplaced (zip (places_of op line) line.operands) ≡ false
+  plain : list_any is_fixed line.operands ≡ false
 
 -- the address and the number of a store, behind the register
 behind_source : (op : StoreOp) (rs n : ℕ) (i : ℤ) (rest : List Operand) (us : List OperandForm) →
     placed (place.Register ∷ address (names_slot (Store op) us) ∷ place.Number ∷ []) us ≡ Some (Use rs ∷ Object n ∷ Imm i ∷ rest) →
-    list_any is_misplaced (zip (place.Register ∷ address (names_slot (Store op) us) ∷ place.Number ∷ []) us) ≡ false →
+    list_any is_misplaced (zip (place.Register ∷ address (names_slot (Store op) us) ∷ place.Number ∷ []) us) ≡ false → list_any is_fixed us ≡ false →
     moves_slot (store_width op) i ≡ false
 unfolding placed
-behind_source op rs n i rest [] e in_place = absurd cc
-behind_source op rs n i rest (u ∷ us) e in_place =
+behind_source op rs n i rest [] e in_place plain = absurd cc
+behind_source op rs n i rest (u ∷ us) e in_place plain =
     let slot = names_slot (Store op) (u ∷ us) in
     let p = parts (operand_at place.Register u) (placed (address slot ∷ place.Number ∷ []) us) (Use rs) (Object n ∷ Imm i ∷ rest) e in
     let later = or_parts (is_misplaced (place.Register, u)) (list_any is_misplaced (zip (address slot ∷ place.Number ∷ []) us)) in_place in
-    object_access (store_width op) n i rest us slot p.rest_is later.1 (λ v w ws is. ap (λ (l : List OperandForm). names_slot (Store op) (u ∷ l)) is)
+    let others = (or_parts (is_fixed u) (list_any is_fixed us) plain).1 in
+    object_access (store_width op) n i rest us slot p.rest_is later.1 others (λ v w ws is. ap (λ (l : List OperandForm). names_slot (Store op) (u ∷ l)) is)
 
 module _ (ids : List ℕ) where
   abbrev Again : Op → List Operand → Type 0
@@ -117,7 +119,7 @@ module _ (ids : List ℕ) where
       from.operands in
       let uses = uses_of_load line.definitions (address slot ∷ place.Number ∷ []) line.operands all.0 all.1 rd n (Imm i ∷ rest) all.2 all.3 all.4 in
       object_access (load_width op) n i rest line.operands slot (all.3 ∙ ap (λ (l : List Operand). Some l) uses) from.in_place
-      (λ u v ws is. ap (names_slot (Load op)) is)
+      from.plain (λ u v ws is. ap (names_slot (Load op)) is)
 
   load : (op : LoadOp) (os : List Operand) (line : ItemForm) → FromLine (Load op) line os → fits_load op os ≡ true → Again (Load op) os
   load op (Def rd ∷ Use a ∷ Imm i ∷ rest) line from e =
@@ -148,7 +150,7 @@ module _ (ids : List ℕ) where
       let all = joined_some (definitions line.definitions) (placed (place.Register ∷ address slot ∷ place.Number ∷ []) line.operands)
       (Use rs ∷ Object n ∷ Imm i ∷ rest) from.operands in
       let uses = uses_of_store line.definitions all.0 all.1 rs (Object n ∷ Imm i ∷ rest) all.2 all.4 in
-      behind_source op rs n i rest line.operands (all.3 ∙ ap (λ (l : List Operand). Some l) uses) from.in_place
+      behind_source op rs n i rest line.operands (all.3 ∙ ap (λ (l : List Operand). Some l) uses) from.in_place from.plain
 
   store : (op : StoreOp) (os : List Operand) (line : ItemForm) → FromLine (Store op) line os → fits_store op os ≡ true → Again (Store op) os
   store op (Use rs ∷ Use a ∷ Imm i ∷ rest) line from e =
@@ -209,10 +211,10 @@ module _ (ids : List ℕ) where
   again NoReturnCallIndirect os line from e = stays_judged ids NoReturnCallIndirect os (held_gone os e)
 
 pub code_is_judged_again : CodeIsJudgedAgain
-code_is_judged_again op line i ids e =
+code_is_judged_again op line i ids plain e =
     let is = code_line op line i e in
     let form = subst (λ (o : Op). has_form o i.operands ≡ true) is.op_is is.form in
-    let same = again ids op i.operands line (record { operands = is.operands; in_place = is.in_place }) form in
+    let same = again ids op i.operands line (record { operands = is.operands; in_place = is.in_place; plain = plain }) form in
     ap judged_instruction (renamed ids i is.form)
     ∙ ap (λ (os : List Operand). record i { operands = os })
     (subst (λ (o : Op). judged_operands o (operands_as ids i.operands) ≡ i.operands) (sym is.op_is) same)

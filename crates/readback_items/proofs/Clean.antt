@@ -10,7 +10,7 @@ use Rattle.mir_func.specs.Sound.{IsNotPointer}
 use Rattle.read_token.specs.declared.lexeme.Flag.TheVariants as flags
 use Rattle.read_line.specs.declared.form.OperandForm.{OperandForm}
 use Rattle.read_line.specs.declared.form.RegisterForm.{RegisterForm}
-use Rattle.read_item.specs.Code.{is_refused_virtual, is_refused_operand, is_pointer, is_pointer_operand, is_fixed}
+use Rattle.read_item.specs.Code.{is_refused_virtual, is_refused_operand, is_pointer, is_pointer_operand}
 use Rattle.mir_printer.specs.Spelling.{is_definition}
 use Rattle.read_program.specs.Limited.{IsLimited}
 use Rattle.readback_items.specs.Forms.{register_form, operand_form, set_register}
@@ -21,7 +21,6 @@ pub record Clean (sets : List RegisterForm) (uses : List OperandForm) (n : ℕ) 
   pub used_known : list_any is_refused_operand uses ≡ false
   pub set_others : list_any is_pointer sets ≡ false
   pub used_others : list_any is_pointer_operand uses ≡ false
-  pub unfixed : list_any is_fixed uses ≡ false
   pub count : length sets + length uses ≡ n
 
 module _ (sets : List RegisterForm) (uses : List OperandForm) (n : ℕ) (c : Clean sets uses n) where
@@ -31,17 +30,15 @@ module _ (sets : List RegisterForm) (uses : List OperandForm) (n : ℕ) (c : Cle
     used_known = c.used_known;
     set_others = ap (λ (b : Bool). b || list_any is_pointer sets) (register_other r other) ∙ c.set_others;
     used_others = c.used_others;
-    unfixed = c.unfixed;
     count = omega (arith, c.count);
   }
 
-  use_more : (f : OperandForm) → is_refused_operand f ≡ false → is_pointer_operand f ≡ false → is_fixed f ≡ false → Clean sets (f ∷ uses) (suc n)
-  use_more f known other apart = record {
+  use_more : (f : OperandForm) → is_refused_operand f ≡ false → is_pointer_operand f ≡ false → Clean sets (f ∷ uses) (suc n)
+  use_more f known other = record {
     set_known = c.set_known;
     used_known = ap (λ (b : Bool). b || list_any is_refused_operand uses) known ∙ c.used_known;
     set_others = c.set_others;
     used_others = ap (λ (b : Bool). b || list_any is_pointer_operand uses) other ∙ c.used_others;
-    unfixed = ap (λ (b : Bool). b || list_any is_fixed uses) apart ∙ c.unfixed;
     count = omega (arith, c.count);
   }
 
@@ -55,22 +52,22 @@ clean_more : (o : Operand) (os : List Operand) → IsLimited o → IsNotPointer 
     Clean (sets_of (o ∷ os)) (uses_of (o ∷ os)) (length (o ∷ os))
 clean_more (Def r) os small other c = set_more (sets_of os) (uses_of os) (length os) c r small other
 clean_more (Use r) os small other c =
-    use_more (sets_of os) (uses_of os) (length os) c (operand_form (Use r)) (register_known flags.Plain r small) (register_other r other) refl
+    use_more (sets_of os) (uses_of os) (length os) c (operand_form (Use r)) (register_known flags.Plain r small) (register_other r other)
 clean_more (ImplicitDef r) os small other c =
-    use_more (sets_of os) (uses_of os) (length os) c (operand_form (ImplicitDef r)) (register_known flags.ImplicitDef r small) refl refl
+    use_more (sets_of os) (uses_of os) (length os) c (operand_form (ImplicitDef r)) (register_known flags.ImplicitDef r small) refl
 clean_more (ImplicitUse r) os small other c =
-    use_more (sets_of os) (uses_of os) (length os) c (operand_form (ImplicitUse r)) (register_known flags.Implicit r small) refl refl
-clean_more (Imm i) os small other c = use_more (sets_of os) (uses_of os) (length os) c (operand_form (Imm i)) refl refl refl
-clean_more (Slot n) os small other c = use_more (sets_of os) (uses_of os) (length os) c (operand_form (Slot n)) refl refl refl
-clean_more (Object n) os small other c = use_more (sets_of os) (uses_of os) (length os) c (operand_form (Object n)) refl refl refl
-clean_more (Part half y) os small other c = use_more (sets_of os) (uses_of os) (length os) c (operand_form (Part half y)) refl refl refl
-clean_more (Outgoing n) os small other c = use_more (sets_of os) (uses_of os) (length os) c (operand_form (Outgoing n)) refl refl refl
-clean_more GlobalRegisters os small other c = use_more (sets_of os) (uses_of os) (length os) c (operand_form GlobalRegisters) refl refl refl
-clean_more (Block n) os small other c = use_more (sets_of os) (uses_of os) (length os) c (operand_form (Block n)) refl refl refl
-clean_more (Symbol name) os small other c = use_more (sets_of os) (uses_of os) (length os) c (operand_form (Symbol name)) refl refl refl
-clean_more Mask os small other c = use_more (sets_of os) (uses_of os) (length os) c (operand_form Mask) refl refl refl
+    use_more (sets_of os) (uses_of os) (length os) c (operand_form (ImplicitUse r)) (register_known flags.Implicit r small) refl
+clean_more (Imm i) os small other c = use_more (sets_of os) (uses_of os) (length os) c (operand_form (Imm i)) refl refl
+clean_more (Slot n) os small other c = use_more (sets_of os) (uses_of os) (length os) c (operand_form (Slot n)) refl refl
+clean_more (Object n) os small other c = use_more (sets_of os) (uses_of os) (length os) c (operand_form (Object n)) refl refl
+clean_more (Part half y) os small other c = use_more (sets_of os) (uses_of os) (length os) c (operand_form (Part half y)) refl refl
+clean_more (Outgoing n) os small other c = use_more (sets_of os) (uses_of os) (length os) c (operand_form (Outgoing n)) refl refl
+clean_more GlobalRegisters os small other c = use_more (sets_of os) (uses_of os) (length os) c (operand_form GlobalRegisters) refl refl
+clean_more (Block n) os small other c = use_more (sets_of os) (uses_of os) (length os) c (operand_form (Block n)) refl refl
+clean_more (Symbol name) os small other c = use_more (sets_of os) (uses_of os) (length os) c (operand_form (Symbol name)) refl refl
+clean_more Mask os small other c = use_more (sets_of os) (uses_of os) (length os) c (operand_form Mask) refl refl
 
 pub clean : (os : List Operand) → All IsLimited os → All IsNotPointer os → Clean (sets_of os) (uses_of os) (length os)
-clean [] small all = record { set_known = refl; used_known = refl; set_others = refl; used_others = refl; unfixed = refl; count = refl }
+clean [] small all = record { set_known = refl; used_known = refl; set_others = refl; used_others = refl; count = refl }
 clean (o ∷ os) small all = clean_more o os (All-head IsLimited o os small) (All-head IsNotPointer o os all)
     (clean os (All-tail IsLimited o os small) (All-tail IsNotPointer o os all))

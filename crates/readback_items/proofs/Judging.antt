@@ -28,7 +28,7 @@ use Rattle.read_item.specs.declared.judged.Judged.TheVariants as judged_as
 use Rattle.read_item.specs.declared.opcode.Opcode.{Opcode}
 use Rattle.read_item.specs.declared.opcode.Opcode.TheVariants as opcodes
 use Rattle.read_item.specs.Code.{refusal_by, joined, definitions, placed, names_slot, places_of, fits, is_refused_virtual, is_refused_operand, is_pointer}
-use Rattle.read_item.specs.Code.{begins_with_virtual, names_refused, is_fixed, is_half_of_fixed, has_half_of_fixed}
+use Rattle.read_item.specs.Code.{begins_with_virtual, names_refused}
 use Rattle.read_item.specs.Code.{is_pointer_operand, is_misplaced, is_long, code_rules, operands_of, instruction, unless_refused, code_of}
 use Rattle.read_item.specs.Code.{placed_behind_callee, has_implicit_callee}
 use Rattle.read_item.specs.Judge.{entries_of, numbered, item_of, judged_by, judged}
@@ -58,18 +58,6 @@ none_broken false false true d f j k l m n p q r s t = absurd cc
 none_broken false false false true f j k l m n p q r s t = absurd cc
 none_broken false false false false true j k l m n p q r s t = absurd cc
 
--- no half of an address stands behind a fixed stack object where there is none
-no_half : (os rest : List OperandForm) → list_any is_fixed os ≡ false → list_any is_half_of_fixed (zip os rest) ≡ false
-no_half [] rest none = refl
-no_half (o ∷ os) [] none = refl
-no_half (o ∷ os) (x ∷ rest) none =
-    let parts = or_parts (is_fixed o) (list_any is_fixed os) none in
-    ap (λ (b : Bool). b || list_any is_half_of_fixed (zip os rest)) (by o parts.0) ∙ no_half os rest parts.1
-  where
-    by : (y : OperandForm) → is_fixed y ≡ false → is_half_of_fixed (y, x) ≡ false
-    by (form.Fixed n) e = absurd cc
-    by y e = refl
-
 module _ (i : Instruction) (number : Option ℕ) (loc : Loc) (is : IsCode i) (small : All (IsLimitedIn false) i.operands) (read : IsTrue (is_read false i.op))
     (language : i.volatile ≡ true → false ≡ true) where
   abbrev line : ItemForm
@@ -97,10 +85,8 @@ module _ (i : Instruction) (number : Option ℕ) (loc : Loc) (is : IsCode i) (sm
   in_place : list_any is_misplaced (zip (places_of i.op line) (uses_of i.operands)) ≡ false
   in_place = ap (λ (s : Bool). list_any is_misplaced (zip (places i.op s) (uses_of i.operands))) given.slot_is ∙ given.in_place
 
-  fits_all : (not (fits i.op (operands_of i.op line)) || has_half_of_fixed (uses_of i.operands)) ≡ false
-  fits_all =
-      ap (λ (b : Bool). b || has_half_of_fixed (uses_of i.operands)) (ap (λ (o : Option (List Operand)). not (fits i.op o)) operands_are ∙ ap not given.form)
-      ∙ no_half (uses_of i.operands) (drop 1 (uses_of i.operands)) plain.unfixed
+  fits_all : (not (fits i.op (operands_of i.op line)) || false) ≡ false
+  fits_all = ap (λ (b : Bool). b || false) (ap (λ (o : Option (List Operand)). not (fits i.op o)) operands_are ∙ ap not given.form)
 
   known : (list_any is_refused_virtual (sets_of i.operands) || list_any is_refused_operand (uses_of i.operands)) ≡ false
   known = ap (λ (b : Bool). b || list_any is_refused_operand (uses_of i.operands)) plain.set_known ∙ plain.used_known
@@ -118,8 +104,7 @@ module _ (i : Instruction) (number : Option ℕ) (loc : Loc) (is : IsCode i) (sm
   short = le-ltb 64 (length (sets_of i.operands) + length (uses_of i.operands)) (omega (arith, plain.count, is.few))
 
   unbroken : refusal_by (code_rules i.op line) ≡ None
-  unbroken = none_broken (not (fits i.op (operands_of i.op line)) || has_half_of_fixed (uses_of i.operands))
-      (names_refused i.op line)
+  unbroken = none_broken (not (fits i.op (operands_of i.op line)) || false) (names_refused i.op line)
       (list_any is_pointer (sets_of i.operands) || list_any is_pointer_operand (uses_of i.operands))
       (list_any is_misplaced (zip (places_of i.op line) (uses_of i.operands))) (is_long line) kinds.BadOperands kinds.VirtualRegister
       kinds.StackPointerUse kinds.StackObject kinds.TooMany fits_all physical others in_place short

@@ -37,8 +37,8 @@ use Rattle.read_line.specs.Item.{begins_operand}
 use Rattle.read_line.specs.Operand.{fitting, mask_at, word_operand_at, operand_at}
 use Rattle.read_line.specs.Read.{◌>>=◌}
 use Rattle.read_line.specs.Register.{behind_class, behind_tied, named_at, register_at}
-use Rattle.read_program.proofs.Operands.{IsLimitedIn}
-use Rattle.mir_printer.specs.Spelling.{register_text, symbol_text, operand_text}
+use Rattle.read_program.proofs.Operands.{IsLimitedIn, IsEntryNumber, of_entry, of_fixed, entry_number}
+use Rattle.mir_printer.specs.Spelling.{register_text, symbol_text, object_text, operand_text}
 use Rattle.readback_items.specs.Forms.{register_name, register_form, no_register, operand_form}
 use Rattle.readback_items.specs.Laws.{NameIsBytes}
 use Rattle.readback_items.proofs.Cuts.{is_safe, IsMark, Passes, AllPass, safe_passes, symbol_passes, decimal_safe}
@@ -47,7 +47,7 @@ use Rattle.readback_items.proofs.Numbers.{limited_decimal, integer_read, named_d
 use Rattle.readback_items.proofs.Registers.{register_class, register_token, register_lexeme, register_within}
 use Rattle.readback_items.proofs.Symbols.{symbol_of}
 use Rattle.readback_items.proofs.Tokens.{Ends, word_read, register_read, percent_read, single_read, integer_token, node_token, decimal_word}
-use Rattle.base_ids.specs.Limits.{MAX_NUMBER}
+use Rattle.base_ids.specs.Limits.{MAX_NUMBER, FIXED}
 
 abbrev pub piece : ℕ → Class → List ℕ → Piece
 piece n c text = record { blanks = n; class = c; text = text }
@@ -403,6 +403,20 @@ pub node_said : (n : ℕ) → n ≤ MAX_NUMBER → PhraseOf (33 ∷ decimal n) (
 unfolding node_phrase one_phrase
 node_said n small = record { phrase = node_phrase n small; text_is = refl; form_is = refl }
 
+-- a stack object that isn't fixed
+pub plain_entry : (n : ℕ) → IsLimitedIn false (Object n) → n ≤ MAX_NUMBER
+plain_entry n is = by (entry_number n is.1) where
+  by : IsEntryNumber n → n ≤ MAX_NUMBER
+  by (of_entry small) = small
+  by (of_fixed great small) = absurd (false≢true (is.0 great))
+
+object_said : (n : ℕ) → IsLimitedIn false (Object n) → PhraseOf (object_text n) (form.Slot n)
+object_said n is =
+    let small = plain_entry n is in
+    let text : object_text n ≡ codes "%stack." ++ decimal n =
+    ap (λ (b : Bool). cond b (codes "%fixed-stack." ++ decimal (n - FIXED)) (codes "%stack." ++ decimal n)) (lt-leb FIXED n (omega (arith, small))) in
+    subst (λ (t : List ℕ). PhraseOf t (form.Slot n)) (sym text) (stack_said n small)
+
 pub operand_said : (o : Operand) → IsLimitedIn false o → NameIsBytes o → PhraseOf (operand_text o) (operand_form o)
 unfolding implicit_phrase implicit_def_phrase flagged_phrase block_phrase symbol_phrase mask_phrase one_phrase
 operand_said (Def r) small bytes = register_said r small
@@ -411,7 +425,7 @@ operand_said (ImplicitDef r) small bytes = record { phrase = implicit_def_phrase
 operand_said (ImplicitUse r) small bytes = record { phrase = implicit_phrase r (omega (arith, small)); text_is = refl; form_is = refl }
 operand_said (Imm i) small bytes = integer_said i small
 operand_said (Slot n) small bytes = stack_said n small
-operand_said (Object n) small bytes = stack_said n small
+operand_said (Object n) small bytes = object_said n small
 operand_said (Part half y) small bytes = absurd (false≢true small.0)
 operand_said (Outgoing n) small bytes = absurd small
 operand_said GlobalRegisters small bytes = absurd small

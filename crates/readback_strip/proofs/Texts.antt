@@ -13,6 +13,7 @@ use Rattle.read_documents.specs.declared.parts.Documents.{Documents}
 use Rattle.read_documents.specs.Documents.{documents_of}
 use Rattle.mir_exposure.specs.declared.exposure.Exposure.TheVariants.{Nothing}
 use Rattle.mir_func.specs.Function.{Function}
+use Rattle.mir_func.specs.Objects.{HasNoFixed}
 use Rattle.mir_func.specs.Strip.{stripped}
 use Rattle.mir_func_printer.specs.FuncText.{func_text, linked_func_text}
 use Rattle.strip_command.specs.read_program.declared.closing.Parsed.{Parsed}
@@ -22,7 +23,7 @@ use Rattle.strip_command.specs.StripText.{stripped_func_text, stripped_text}
 use Rattle.readback_functions.specs.Document.{is_printed, IsLine, fed, text_of_lines, Document, document_lines, IsDocument, documents_at}
 use Rattle.readback_functions.proofs.Scans.{documents_read_back}
 use Rattle.readback_functions.specs.Stripped.{document_of, HasNamesOfBytes, reread}
-use Rattle.readback_functions.proofs.Exposed.{function_exposes_nothing, function_has_no_constants}
+use Rattle.readback_functions.proofs.Exposed.{function_exposes_nothing, function_has_no_constants, function_has_no_fixed}
 use Rattle.readback_functions.proofs.Functions.{functions_read_back}
 use Rattle.readback_functions.specs.Bytes.{AreBytes}
 use Rattle.readback_functions.proofs.NameDocuments.{DocBytes}
@@ -65,6 +66,9 @@ plain_text : (f : Function) → linked_func_text f [] [] Nothing ≡ func_text f
 unfolding linked_func_text func_text
 plain_text f = refl
 
+no_fixed : (meta : Maps) (q : Parsed) → IsGood meta q → HasNoFixed q.func.objects
+no_fixed meta q good = function_has_no_fixed meta good.0.doc q good.0.is.plain good.0.parses
+
 plain_stripped : (meta : Maps) (q : Parsed) → IsGood meta q → func_text (stripped q.func) [] ≡ stripped_func_text q
 plain_stripped meta q good =
     sym (plain_text (stripped q.func))
@@ -74,7 +78,7 @@ plain_stripped meta q good =
 text_is : (meta : Maps) (qs : List Parsed) → All (IsGood meta) qs → text_of_lines (flat_map document_lines (map strip_document qs)) ≡ stripped_text qs
 text_is meta [] all = refl
 text_is meta (q ∷ qs) all =
-    let here = function_fed (stripped q.func) ∙ plain_stripped meta q (All-head (IsGood meta) q qs all) in
+    let here = function_fed (stripped q.func) (no_fixed meta q (All-head (IsGood meta) q qs all)) ∙ plain_stripped meta q (All-head (IsGood meta) q qs all) in
     let rest = text_is meta qs (All-tail (IsGood meta) q qs all) in
     flat_map-append fed (document_lines (strip_document q)) (flat_map document_lines (map strip_document qs)) ∙ (λ i. here i ++ rest i)
 
@@ -104,7 +108,8 @@ functions_bytes : (meta : Maps) (qs : List Parsed) → All (IsGood meta) qs → 
 functions_bytes meta [] all = All-nil (λ (b : ℕ). b < 256)
 functions_bytes meta (q ∷ qs) all =
     All-append (λ (b : ℕ). b < 256) (stripped_func_text q) (stripped_text qs)
-    (subst AreBytes (function_fed (stripped q.func) ∙ plain_stripped meta q (All-head (IsGood meta) q qs all))
+    (subst AreBytes (function_fed (stripped q.func) (no_fixed meta q (All-head (IsGood meta) q qs all))
+    ∙ plain_stripped meta q (All-head (IsGood meta) q qs all))
     (lines_bytes (document_lines (strip_document q)) (is_document meta q (All-head (IsGood meta) q qs all)).printed))
     (functions_bytes meta qs (All-tail (IsGood meta) q qs all))
 
@@ -113,8 +118,8 @@ functions_bytes meta (q ∷ qs) all =
 one_same : (meta : Maps) (q : Parsed) → IsGood meta q → stripped_func_text (reread q) ≡ stripped_func_text q
 one_same meta q good =
     plain_text (stripped (reread q).func)
-    ∙ (sym (function_fed (stripped (reread q).func)) ∙ (ap (λ (d : Document). text_of_lines (document_lines d)) (document_again q.func)
-    ∙ (function_fed (stripped q.func) ∙ plain_stripped meta q good)))
+    ∙ (sym (function_fed (stripped (reread q).func) (no_fixed meta q good)) ∙ (ap (λ (d : Document). text_of_lines (document_lines d)) (document_again q.func)
+    ∙ (function_fed (stripped q.func) (no_fixed meta q good) ∙ plain_stripped meta q good)))
 
 texts_same : (meta : Maps) (qs : List Parsed) → All (IsGood meta) qs → stripped_text (map reread qs) ≡ stripped_text qs
 texts_same meta [] all = refl

@@ -10,7 +10,7 @@ use Rattle.dwarf_loclists.specs.Grammar.{IsSection}
 use Rattle.frame_rule.specs.Rule.{framed_of}
 use Rattle.compile_program.specs.machine_steps_proof.Images.{IsImageOf}
 use Rattle.compile_program.proofs.compile_theorem.Functions.{IsCompiledIn, compiled_in}
-use Rattle.compile_program.proofs.compile_theorem.Headline.{formed, unfixed}
+use Rattle.compile_program.proofs.compile_theorem.Headline.{formed}
 use Rattle.compile_program.proofs.compile_theorem.Telling.{all_at}
 use Rattle.compile_program.specs.compile_theorem.Compiled.{AreCompiled, IsCompiledProgram, bytes_of}
 use Rattle.compile_program.specs.compile_theorem.OutputProperties.{variable_lines}
@@ -39,7 +39,7 @@ module _ (names : ℕ → List ℕ) (o : Output) (lists : List (List Range)) (se
       let at : drop l.base o.text ≡ bytes_of l ++ c.more = ap (λ (n : ℕ). drop n o.text) c.compiled.laid.from ∙ c.words in
       subst (λ (x : ListedFunction). IsImageOf l (image_of o x)) (sym c.compiled.listed) (image_shown l (variable_lines names c.first
       (variables_of_function passed.source.function.blocks)) passed.substitutions o c.more (formed names o lists section passed f is c)
-      (unfixed names o lists section passed f is c) at)
+      at)
 
   shows : (code : LaidCode) → IsCodeOf (framed_of passed.function) c.base code → ShowsCode code (image_of o f)
   shows code coded =

@@ -18,7 +18,7 @@ use Rattle.mir_func.specs.rv64_instr.DefsAndUses.{reads, sets, callee_reads}
 use Rattle.mir_func.specs.rv64_instr.LocationEffects.{place_set, set_by, moved_by, constant_of, is_pure, is_call as calls, uses_of, defines_of, first_use, second_use}
 use Rattle.mir_func.specs.rv64_instr.LocationEffects.{is_register, has_implicit_uses, is_implicit_use, is_outgoing, names_slot, slot_read, is_call}
 use Rattle.mir_func.specs.rv64_instr.LocationEffects.{is_global_register, callee_place}
-use Rattle.rv64_instr.proofs.Passed.{passed_by}
+use Rattle.mir_func.proofs.Passed.{passed_by}
 use Rattle.mir_func.specs.declared.item.ItemKind.{ItemKind}
 use Rattle.mir_func.specs.declared.item.ItemKind.TheVariants.{Code, Mark, Phi}
 use Rattle.sem_mir.specs.Live.{KindDefines}

@@ -297,7 +297,7 @@ module _ (meta : Maps) (number count : ℕ) (some : 1 ≤ count) (few : count �
       ∙ blocks_again [] SLOTS ids same_ids Any bs read_blocks knows ∙ plain
 
   abbrev declares : Declarations
-  declares = record { name = codes "gen"; stack = ENTRIES; substitutions = []; pool = []; exposure = Nothing }
+  declares = record { name = codes "gen"; stack = ENTRIES; fixed = []; substitutions = []; pool = []; exposure = Nothing }
 
   same_function : function_of declares body ≡ f
   same_function = λ i. record { name = codes "gen"; slots = slots i; objects = objects i; blocks = blocks i }
@@ -307,7 +307,7 @@ module _ (meta : Maps) (number count : ℕ) (some : 1 ≤ count) (few : count �
       let name = names_read_back (n + 1) (codes "gen") gen_bytes in
       let stack = stacks_read_back (n + 2) SLOTS [] declared.each declared.several declared.apart declared.few in
       λ i. checked (earlier (earlier (earlier (name i).refused (stack i).refused) (earlier (no_fixed i) (no_substitutions i).refused)) None)
-      (record { name = (name i).name; stack = (stack i).entries; substitutions = (no_substitutions i).entries; pool = []; exposure = Nothing })
+      (record { name = (name i).name; stack = (stack i).entries; fixed = []; substitutions = (no_substitutions i).entries; pool = []; exposure = Nothing })
 
   -- ---- its close
 
@@ -337,8 +337,8 @@ module _ (meta : Maps) (number count : ℕ) (some : 1 ≤ count) (few : count �
       (λ b all. all_true (λ (i : Item). kind_stays [] i.kind) b.items
       (All-weaker IsGood (λ i. kind_stays [] i.kind ≡ true) (λ i g. stays_made g.made) b.items all)) bs good)
 
-  accesses : is_some (parts_of body.objects ENTRIES (blocks_of body)) ≡ true
-  accesses = parts_some (stays (laid_out body.objects ENTRIES (blocks_of body))) (laid_out body.objects ENTRIES (blocks_of body))
+  accesses : is_some (parts_of body.objects ENTRIES [] (blocks_of body)) ≡ true
+  accesses = parts_some (stays (laid_out body.objects ENTRIES [] (blocks_of body))) (laid_out body.objects ENTRIES [] (blocks_of body))
       ∙ ((λ i. blocks_stay (objects i) (blocks i)) ∙ stay)
 
   constants : are_known [] (blocks_of body) ≡ true
@@ -346,8 +346,8 @@ module _ (meta : Maps) (number count : ℕ) (some : 1 ≤ count) (few : count �
 
   none : closing_cause declares body ≡ None
   none = no_cause (blocks_go_to body.ids (blocks_of body)) (all_met (entry_ids ENTRIES) body.entries)
-      (are_known [] (blocks_of body) && is_some (parts_of body.objects ENTRIES (blocks_of body))) branches all_entries
-      (and_from (are_known [] (blocks_of body)) (is_some (parts_of body.objects ENTRIES (blocks_of body))) constants accesses)
+      (are_known [] (blocks_of body) && is_some (parts_of body.objects ENTRIES [] (blocks_of body))) branches all_entries
+      (and_from (are_known [] (blocks_of body)) (is_some (parts_of body.objects ENTRIES [] (blocks_of body))) constants accesses)
 
   ends : EndWell (function_of declares body).blocks
   ends = subst EndWell (sym blocks) (read.sound.ends, read.sound.last)

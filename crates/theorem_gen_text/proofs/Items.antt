@@ -74,6 +74,9 @@ slot_met (suc (suc zero)) l = refl
 slot_met (suc (suc (suc zero))) l = refl
 slot_met (suc (suc (suc (suc n)))) l = absurd (omega (arith, l))
 
+slot_among : (n : ℕ) → n < 4 → NamesAmong SLOTS (Slot n)
+slot_among n l = (omega (arith, l), slot_met n l)
+
 as_slot_as : (ids : List ℕ) (o : Operand) → as_slot (operand_as ids o) ≡ as_slot o
 as_slot_as ids (Slot n) = by (is_met n ids) where
   by : (b : Bool) → as_slot (cond b (Object n) (Slot n)) ≡ Slot n
@@ -147,8 +150,8 @@ known_made (adds rd rs rt k a b c l) f m g p = code_known _ (Some k) f m g p ref
 known_made (copies rd rs k a b l) f m g p = code_known _ (Some k) f m g p refl (two (NamesAmong SLOTS) _ _ tt tt) (lit≤ tt)
 known_made gives f m g p = code_known _ None f m g p refl (two (NamesAmong SLOTS) _ _ tt tt) (lit≤ tt)
 known_made (sets rd n k a l q) f m g p = code_known _ (Some k) f m g p refl (three (NamesAmong SLOTS) _ _ _ tt tt tt) (lit≤ tt)
-known_made (stores rs n a l) f m g p = code_known _ None f m g p refl (three (NamesAmong SLOTS) _ _ _ tt (slot_met n l) tt) (lit≤ tt)
-known_made (loads rd n k a l q) f m g p = code_known _ (Some k) f m g p refl (three (NamesAmong SLOTS) _ _ _ tt (slot_met n l) tt) (lit≤ tt)
+known_made (stores rs n a l) f m g p = code_known _ None f m g p refl (three (NamesAmong SLOTS) _ _ _ tt (slot_among n l) tt) (lit≤ tt)
+known_made (loads rd n k a l q) f m g p = code_known _ (Some k) f m g p refl (three (NamesAmong SLOTS) _ _ _ tt (slot_among n l) tt) (lit≤ tt)
 known_made (phis rs k a l) f m g p = tt
 known_made (marks n k l q) f m g p = tt
 known_made (branches rs n a l) f m g p = code_known _ None f m g p refl (three (NamesAmong SLOTS) _ _ _ tt tt tt) (lit≤ tt)
@@ -173,8 +176,8 @@ named_made (adds rd rs rt k a b c l) = three (NamesAmong SLOTS) _ _ _ tt tt tt
 named_made (copies rd rs k a b l) = two (NamesAmong SLOTS) _ _ tt tt
 named_made gives = two (NamesAmong SLOTS) _ _ tt tt
 named_made (sets rd n k a l m) = three (NamesAmong SLOTS) _ _ _ tt tt tt
-named_made (stores rs n a l) = three (NamesAmong SLOTS) _ _ _ tt (slot_met n l) tt
-named_made (loads rd n k a l m) = three (NamesAmong SLOTS) _ _ _ tt (slot_met n l) tt
+named_made (stores rs n a l) = three (NamesAmong SLOTS) _ _ _ tt (slot_among n l) tt
+named_made (loads rd n k a l m) = three (NamesAmong SLOTS) _ _ _ tt (slot_among n l) tt
 named_made (phis rs k a l) = tt
 named_made (marks n k l m) = tt
 named_made (branches rs n a l) = three (NamesAmong SLOTS) _ _ _ tt tt tt

@@ -1,7 +1,9 @@
 -- The document of a generated function is read as its program, alone and behind the metadata.
-use Rattle.std.proofs.Common.{◌≡◌, false, ℕ, ◌≤◌, [], ◌∷◌, ◌++◌, List, Ok, refl, sym, ap, ◌∙◌, subst, arith}
+use Rattle.std.proofs.Common.{◌≡◌, false, ℕ, ◌≤◌, [], ◌∷◌, ◌++◌, List, None, Ok, refl, sym, ap, ◌∙◌, subst, arith}
 use Rattle.std.proofs.lemmas.List.Elements.{All-nil}
 use Rattle.mir_exposure.specs.declared.exposure.Exposure.TheVariants.{Nothing}
+use Rattle.mir_func.specs.declared.object.Object.{Object}
+use Rattle.mir_func.specs.Objects.{HasNoFixed}
 use Rattle.read_metadata.specs.Maps.{Maps}
 use Rattle.read_metadata.specs.Metadata.{metadata_of}
 use Rattle.read_documents.specs.declared.parts.Documents.{Documents}
@@ -29,6 +31,10 @@ one_read meta number count n some few = (
   (λ lt. (Ok (record { func = generated number count; subs = []; pool = []; exposure = Nothing }), function_read meta number count some few n, refl)),
 )
 
+-- it has no objects
+no_fixed : (number count : ℕ) → HasNoFixed (generated number count).objects
+no_fixed number count = All-nil (λ (o : Object). o.fixed_offset ≡ None)
+
 -- the document is one
 is_one : (meta : Maps) (number count : ℕ) → 1 ≤ count → count ≤ 512 → IsDocument (document_of (generated number count) [])
 is_one meta number count some few =
@@ -40,7 +46,7 @@ generated_documents_are_read number count some few =
     let f = generated number count in
     let d = document_of f [] in
     let meta = metadata_of [] in
-    let found = ap (documents_of false) (sym (function_fed f [])) ∙ found_alone d (is_one meta number count some few) in
+    let found = ap (documents_of false) (sym (function_fed f [] (no_fixed number count))) ∙ found_alone d (is_one meta number count some few) in
     subst (λ (x : Documents). ReadsDocuments x (Ok (generated_program number count))) (sym found)
     (Ok (record { func = f; subs = []; pool = []; exposure = Nothing } ∷ []), one_read meta number count 1 some few, refl)
 
@@ -52,7 +58,7 @@ generated_texts_are_read number count some few =
     let d = document_of f [] in
     let meta = metadata_of (lines_from 2 metadata_lines) in
     let text : generated_text number count ≡ metadata_text ++ text_of_lines (document_lines d) =
-    ap (λ (l : List ℕ). metadata_text ++ l) (sym (function_fed f [])) in
+    ap (λ (l : List ℕ). metadata_text ++ l) (sym (function_fed f [] (no_fixed number count))) in
     let found = ap (documents_of false) (text ∙ block_fed (document_lines d))
     ∙ documents_behind metadata_lines d (is_one meta number count some few) lines_print lines_go_on refl in
     subst (λ (x : Documents). ReadsDocuments x (Ok (program_of_text number count))) (sym found)

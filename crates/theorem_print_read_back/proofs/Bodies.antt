@@ -134,7 +134,7 @@ module _ (ids entries : List ℕ) where
   place_declared declared each (Some (place.Slot n)) k i is = by (is_met n ids) where
     by : (b : Bool) → all_met declared (entries_named (record { kind = Phi (cond b None (Some (place.Slot n))) k; origin = i.origin; loc = i.loc })) ≡ true
     by true = refl
-    by false = and_from (is_met n declared) true (each n is) refl
+    by false = and_from (is_met n declared) true (each n is.1) refl
 
   pub kind_declared : (declared : List ℕ) → ((n : ℕ) → is_met n entries ≡ true → is_met n declared ≡ true) → (kind : ItemKind) (i : Item) →
       KnownKind entries kind → KindNamesAmong entries kind →

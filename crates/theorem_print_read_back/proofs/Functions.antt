@@ -39,6 +39,7 @@ use Rattle.read_program.proofs.KnownConstants.{plain_known}
 use Rattle.read_program.proofs.Bodies.{IsReadBlock, IsReadBody}
 use Rattle.read_program.proofs.Comes.{ComesFromLine, plain_body_reads}
 use Rattle.read_program.proofs.Entries.{declared_if_met, ids_are_objects}
+use Rattle.read_program.proofs.Frames.{objects_unfixed}
 use Rattle.read_program.proofs.Forms.{line_fits}
 use Rattle.read_program.proofs.Items.{IsReadItem, item_reads}
 use Rattle.read_program.proofs.Judged.{judged_line}
@@ -68,7 +69,7 @@ use Rattle.readback_functions.proofs.Bodies.{all_declared}
 use Rattle.readback_functions.proofs.FunctionCodes.{KnownKind, item_known}
 use Rattle.readback_functions.proofs.Exposed.{exposes_nothing}
 use Rattle.readback_functions.proofs.Functions.{split_items, unmapped, both_items, weaker_items, texts_are, parts_some, ClosesAll, closes_all, no_cause}
-use Rattle.readback_functions.proofs.Functions.{no_fixed}
+use Rattle.readback_functions.proofs.Functions.{no_fixed, unfixed, unfixed_is}
 use Rattle.readback_functions.proofs.NameDocuments.{DocBytes}
 use Rattle.readback_functions.proofs.NameFunctions.{WasRead, program_is, program_read, names_are_of_bytes}
 use Rattle.theorem_print_read_back.specs.Printed.{IsReadAsPrinted, PrintedFunctionsAreRead}
@@ -91,9 +92,12 @@ record IsGood (meta : Maps) (body : Body) (kind : ItemKind) (loc : Loc) : Type 0
   known : KnownKind body.entries kind
   read : IsReadItem false meta body.entries kind loc
 
-module _ (meta : Maps) (doc : FunctionDocument) (d : Declarations) (body : Body) (p : Parsed) (declared : declarations_of doc ≡ Ok d)
-    (plain : doc.linked ≡ false) (read : body_of false meta doc.body ≡ Ok body) (closes : Closes doc.closed d body (Ok p)) (parses : Parses meta doc (Ok p))
-    (names : HasNamesOfBytes (function_of d body)) (n : ℕ) where
+module _ (meta : Maps) (doc : FunctionDocument) (given : Declarations) (body : Body) (p : Parsed) (declared : declarations_of doc ≡ Ok (unfixed given))
+    (plain : doc.linked ≡ false) (read : body_of false meta doc.body ≡ Ok body) (closes : Closes doc.closed (unfixed given) body (Ok p))
+    (parses : Parses meta doc (Ok p)) (names : HasNamesOfBytes (function_of (unfixed given) body)) (n : ℕ) where
+  abbrev d : Declarations
+  d = unfixed given
+
   abbrev ids : List ℕ
   ids = ids_of_objects body.objects d.stack
 
@@ -245,7 +249,14 @@ module _ (meta : Maps) (doc : FunctionDocument) (d : Declarations) (body : Body)
   frame = frames_read_back body.objects body2.objects d.stack entries same_named
 
   abbrev declared2 : Declarations
-  declared2 = record { name = d.name; stack = entries_again body.objects d.stack; substitutions = d.substitutions; pool = []; exposure = Nothing }
+  declared2 = record {
+    name = d.name;
+    stack = entries_again body.objects d.stack;
+    fixed = [];
+    substitutions = d.substitutions;
+    pool = [];
+    exposure = Nothing;
+  }
 
   abbrev ids2 : List ℕ
   ids2 = ids_of_objects body2.objects declared2.stack
@@ -270,7 +281,14 @@ module _ (meta : Maps) (doc : FunctionDocument) (d : Declarations) (body : Body)
       let subs = substitutions_read_back (n + 2 + length printed.stack) d.substitutions (declares_small doc d declared).substitutions
       (substitutions_new doc d declared) in
       λ i. checked (earlier (earlier (earlier (name i).refused (stack i).refused) (earlier (no_fixed i) (subs i).refused)) None)
-      (record { name = (name i).name; stack = (stack i).entries; substitutions = (subs i).entries; pool = []; exposure = Nothing })
+      (record {
+        name = (name i).name;
+        stack = (stack i).entries;
+        fixed = [];
+        substitutions = (subs i).entries;
+        pool = [];
+        exposure = Nothing;
+      })
 
   -- ---- its close
 
@@ -286,8 +304,8 @@ module _ (meta : Maps) (doc : FunctionDocument) (d : Declarations) (body : Body)
       (λ i g. kind_declared ids body.entries (entry_ids declared2.stack)
       (λ m met. frame.ids m (declared_if_met (entry_ids d.stack) body.entries closed.entries m met)) i.kind i g.known g.read.named) bs good)
 
-  accesses : is_some (parts_of body2.objects declared2.stack (blocks_of body2)) ≡ true
-  accesses = parts_some (stays (laid_out body2.objects declared2.stack (blocks_of body2))) (laid_out body2.objects declared2.stack (blocks_of body2))
+  accesses : is_some (parts_of body2.objects declared2.stack [] (blocks_of body2)) ≡ true
+  accesses = parts_some (stays (laid_out body2.objects declared2.stack [] (blocks_of body2))) (laid_out body2.objects declared2.stack [] (blocks_of body2))
       ∙ ((λ i. blocks_stay (frame.objects i) (blocks i)) ∙ closed.accesses)
 
   constants : are_known [] (blocks_of body2) ≡ true
@@ -295,8 +313,8 @@ module _ (meta : Maps) (doc : FunctionDocument) (d : Declarations) (body : Body)
 
   none : closing_cause declared2 body2 ≡ None
   none = no_cause (blocks_go_to body2.ids (blocks_of body2)) (all_met (entry_ids declared2.stack) body2.entries)
-      (are_known [] (blocks_of body2) && is_some (parts_of body2.objects declared2.stack (blocks_of body2))) branches all_entries
-      (and_from (are_known [] (blocks_of body2)) (is_some (parts_of body2.objects declared2.stack (blocks_of body2))) constants accesses)
+      (are_known [] (blocks_of body2) && is_some (parts_of body2.objects declared2.stack [] (blocks_of body2))) branches all_entries
+      (and_from (are_known [] (blocks_of body2)) (is_some (parts_of body2.objects declared2.stack [] (blocks_of body2))) constants accesses)
 
   function_read : Parses meta doc2 (Ok (record { func = f; subs = d.substitutions; pool = []; exposure = Nothing }))
   function_read =
@@ -317,15 +335,15 @@ found_alone f is =
     ap (λ (ls : List (List ℕ)). documents_of false (text_of_lines ls)) (sym (append-nil (document_lines f)))
     ∙ documents_read_back (f ∷ []) (All-cons IsDocument f [] is (All-nil IsDocument))
 
-read_as_printed : (meta : Maps) (doc : FunctionDocument) (d : Declarations) (body : Body) (p : Parsed) → declarations_of doc ≡ Ok d →
-    doc.linked ≡ false → body_of false meta doc.body ≡ Ok body → Closes doc.closed d body (Ok p) → Parses meta doc (Ok p) →
-    HasNamesOfBytes (function_of d body) →
-    IsReadAsPrinted meta (record { func = function_of d body; subs = d.substitutions; pool = []; exposure = Nothing })
+read_as_printed : (meta : Maps) (doc : FunctionDocument) (d : Declarations) (body : Body) (p : Parsed) → declarations_of doc ≡ Ok (unfixed d) →
+    doc.linked ≡ false → body_of false meta doc.body ≡ Ok body → Closes doc.closed (unfixed d) body (Ok p) → Parses meta doc (Ok p) →
+    HasNamesOfBytes (function_of (unfixed d) body) →
+    IsReadAsPrinted meta (record { func = function_of (unfixed d) body; subs = d.substitutions; pool = []; exposure = Nothing })
 read_as_printed meta doc d body p declared plain read closes parses names =
-    let whole = document_of (function_of d body) d.substitutions in
+    let whole = document_of (function_of (unfixed d) body) d.substitutions in
     record {
       document = document_at 1 whole;
-      found = ap (documents_of false) (sym (function_fed (function_of d body) d.substitutions))
+      found = ap (documents_of false) (sym (function_fed (function_of (unfixed d) body) d.substitutions (objects_unfixed body.objects d.stack)))
           ∙ found_alone whole (is_document meta doc d body p declared plain read closes parses names 1);
       reads = function_read meta doc d body p declared plain read closes parses names 1;
     }
@@ -337,9 +355,12 @@ by_parts : (meta : Maps) (doc : FunctionDocument) (p : Parsed) (d : Result Decla
 by_parts meta doc p (Ok d) (Ok body) declared plain read closes parses names =
     let exposes : Nothing ≡ p.exposure = sym (closes.4 ∙ exposes_nothing doc d declared plain) in
     let without : [] ≡ p.pool = sym (closes.5 ∙ plain_pool doc d declared plain) in
-    let same : record { func = function_of d body; subs = d.substitutions; pool = []; exposure = Nothing } ≡ p =
-    λ i. record { func = sym closes.1 i; subs = sym closes.2 i; pool = without i; exposure = exposes i } in
-    subst (IsReadAsPrinted meta) same (read_as_printed meta doc d body p declared plain read closes parses (subst HasNamesOfBytes closes.1 names))
+    let unfixed_too = unfixed_is doc d declared plain in
+    let own = subst (λ (x : Declarations). Closes doc.closed x body (Ok p)) unfixed_too closes in
+    let same : record { func = function_of (unfixed d) body; subs = d.substitutions; pool = []; exposure = Nothing } ≡ p =
+    λ i. record { func = sym own.1 i; subs = sym own.2 i; pool = without i; exposure = exposes i } in
+    subst (IsReadAsPrinted meta) same (read_as_printed meta doc d body p (declared ∙ ap (λ (x : Declarations). Ok x) unfixed_too) plain read own parses
+    (subst HasNamesOfBytes own.1 names))
 by_parts meta doc p (Ok d) (Err s) declared plain read refused parses names = absurd refused
 by_parts meta doc p (Err r) (Ok body) declared plain read refused parses names = absurd refused
 by_parts meta doc p (Err r) (Err s) declared plain read refused parses names = absurd refused

@@ -1,5 +1,5 @@
 -- The lines of a function and its substitutions are those of a document, and its text is theirs.
-use Rattle.std.proofs.Common.{◌≡◌, ℕ, ◌+◌, ◌<◌, ◌≤◌, List, [], ◌∷◌, ◌++◌, map, All, refl, ap, ◌∙◌, append_assoc}
+use Rattle.std.proofs.Common.{◌≡◌, ℕ, ◌+◌, ◌<◌, ◌≤◌, List, [], ◌∷◌, ◌++◌, map, All, refl, ap, ◌∙◌, append_assoc, sym}
 use Rattle.std.specs.Prelude.{codes}
 use Rattle.std.specs.Fmt.{decimal}
 use Rattle.std.specs.List.{flat_map}
@@ -10,9 +10,10 @@ use Rattle.read_documents.specs.Key.{heading}
 use Rattle.mir_func.specs.declared.block.Block.{Block}
 use Rattle.mir_func.specs.declared.debug_substitution.DebugSubstitution.{DebugSubstitution}
 use Rattle.mir_func.specs.Function.{Function}
+use Rattle.mir_func.specs.Objects.{HasNoFixed}
 use Rattle.mir_func.specs.Sound.{items_of}
 use Rattle.mir_func_printer.specs.FuncText.{name_text, stack_text, entry_line as entry_text, some_substitutions, substitutions_text, block_text}
-use Rattle.mir_func_printer.specs.FuncText.{func_text}
+use Rattle.mir_func_printer.specs.FuncText.{document_with, stack_and_body, func_text}
 use Rattle.read_proof.specs.Read.{EntryIsLimited}
 use Rattle.readback_items.specs.Laws.{IsWritable}
 use Rattle.readback_items.specs.Body.{body_lines}
@@ -23,7 +24,7 @@ use Rattle.readback_functions.proofs.Declared.{declared_lines_are_printed}
 use Rattle.readback_functions.proofs.Marks.{number_shows}
 use Rattle.readback_functions.proofs.Texts.{Shows, shows_behind, line_of}
 use Rattle.readback_functions.proofs.FunctionDocuments.{stack_printed, stack_section, blocks_printed, blocks_indented, name_heading}
-use Rattle.readback_strip.proofs.Lines.{fed_both, stack_fed, blocks_fed}
+use Rattle.readback_strip.proofs.Lines.{fed_both, fixed_none, stack_fed, blocks_fed}
 
 -- the document of a function and its substitutions
 abbrev pub document_of : Function → List DebugSubstitution → Document
@@ -107,15 +108,16 @@ substitutions_fed (e ∷ es) = ap (λ (l : List ℕ). codes "debugValueSubstitut
 regrouped : (a b c d e f g h : List ℕ) → a ++ ((b ++ c) ++ (d ++ (e ++ (f ++ (g ++ h))))) ≡ a ++ b ++ c ++ (d ++ e ++ f ++ g ++ h)
 regrouped a b c d e f g h = simp append_assoc
 
-pub function_fed : (f : Function) (es : List DebugSubstitution) → text_of_lines (document_lines (document_of f es)) ≡ func_text f es
+pub function_fed : (f : Function) (es : List DebugSubstitution) → HasNoFixed f.objects → text_of_lines (document_lines (document_of f es)) ≡ func_text f es
 unfolding func_text
-function_fed f es =
+function_fed f es unfixed =
     ap (λ (l : List ℕ). fed (codes "---") ++ (fed (name_line f.name) ++ l)) (fed_both (stack_lines f.slots f.objects) (substitution_lines es ++ behind)
-    ∙ ((λ i. stack_fed f.slots f.objects i ++ fed_both (substitution_lines es) behind i)
+    ∙ ((λ i. stack_fed f.slots f.objects unfixed i ++ fed_both (substitution_lines es) behind i)
     ∙ (λ i. stack_text f.slots f.objects ++ (substitutions_fed es i ++ (fed (codes "body: |") ++ ((fed_both (body_lines f.blocks) (codes "..." ∷ []) ∙
     ap (λ (l : List ℕ). l ++ text_of_lines (codes "..." ∷ [])) (blocks_fed f.blocks)) i))))))
     ∙ regrouped (codes "---" ++ 10 ∷ []) (codes "name: " ++ name_text f.name) (10 ∷ []) (stack_text f.slots f.objects) (substitutions_text es)
     (codes "body: |" ++ 10 ∷ []) (flat_map block_text f.blocks) (codes "..." ++ 10 ∷ [])
+    ∙ ap (λ (l : List ℕ). document_with f (l ++ stack_and_body f es)) (sym (fixed_none f.objects unfixed))
   where
     behind : List (List ℕ)
     behind = codes "body: |" ∷ (body_lines f.blocks ++ codes "..." ∷ [])

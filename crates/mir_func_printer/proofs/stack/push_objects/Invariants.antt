@@ -1,7 +1,7 @@
 use Rattle.std.proofs.Common.{◌≡◌, ◌++◌, take}
 use Rattle.std.specs.List.{flat_map}
-use Rattle.mir_func_printer.specs.FuncText.{object_line}
+use Rattle.mir_func_printer.specs.FuncText.{stack_line}
 use Rattle.mir_func_printer.proofs.stack.push_objects.Given as goal
 
 abbrev pub invariant-loop-object : goal.invariant-loop-object
-invariant-loop-object l = l.text ≡ l.initial.text ++ flat_map object_line (take l.object-index l.objects)
+invariant-loop-object l = l.text ≡ l.initial.text ++ flat_map stack_line (take l.object-index l.objects)
