@@ -36,18 +36,28 @@ difference b x y = omega arith
 advance_moved : (b x y : ℕ) → advance_pc (b + x) (b + y) ≡ advance_pc x y
 advance_moved b x y = ap (λ (n : ℕ). DW_LNS_advance_pc ∷ uleb_of n) (difference b x y)
 
-row_moved : (b : ℕ) (before r : Row) → row (moved_row b before) (moved_row b r) ≡ row before r
-unfolding row
-row_moved b before r =
+-- the opcodes for registers that change, and what follows them
+pub opcodes_moved : (b : ℕ) (before r : Row) (behind : List ℕ)
+    → changing before.file r.file (set_file r.file) ++ changing before.column r.column (set_column r.column)
+    ++ changing (b + before.address) (b + r.address) (advance_pc (b + before.address) (b + r.address))
+    ++ changing before.line r.line (advance_line before.line r.line) ++ behind
+    ≡ changing before.file r.file (set_file r.file) ++ changing before.column r.column (set_column r.column)
+    ++ changing before.address r.address (advance_pc before.address r.address)
+    ++ changing before.line r.line (advance_line before.line r.line) ++ behind
+opcodes_moved b before r behind =
     let files : List ℕ = changing before.file r.file (set_file r.file) in
     let columns : List ℕ = changing before.column r.column (set_column r.column) in
     let lines : List ℕ = changing before.line r.line (advance_line before.line r.line) in
-    ap (λ (t : Bool). files ++ columns ++ (if t then [] else advance_pc (b + before.address) (b + r.address)) ++ lines ++ DW_LNS_copy ∷ [])
+    ap (λ (t : Bool). files ++ columns ++ (if t then [] else advance_pc (b + before.address) (b + r.address)) ++ lines ++ behind)
     (eq_moved b r.address before.address)
-    ∙ ap (λ (ys : List ℕ). files ++ columns ++ (if r.address == before.address then [] else ys) ++ lines ++ DW_LNS_copy ∷ [])
+    ∙ ap (λ (ys : List ℕ). files ++ columns ++ (if r.address == before.address then [] else ys) ++ lines ++ behind)
     (advance_moved b before.address r.address)
 
-rows_moved : (b : ℕ) (before : Row) (rows : List Row) (end : ℕ) → rows_to (moved_row b before) (map (moved_row b) rows) (b + end) ≡ rows_to before rows end
+pub row_moved : (b : ℕ) (before r : Row) → row (moved_row b before) (moved_row b r) ≡ row before r
+unfolding row
+row_moved b before r = opcodes_moved b before r (DW_LNS_copy ∷ [])
+
+pub rows_moved : (b : ℕ) (before : Row) (rows : List Row) (end : ℕ) → rows_to (moved_row b before) (map (moved_row b) rows) (b + end) ≡ rows_to before rows end
 rows_moved b before [] end = ap (λ (ys : List ℕ). ys ++ end_sequence) (advance_moved b before.address end)
 rows_moved b before (r ∷ rows) end =
     ap (λ (ys : List ℕ). ys ++ rows_to (moved_row b r) (map (moved_row b) rows) (b + end)) (row_moved b before r)
@@ -55,7 +65,7 @@ rows_moved b before (r ∷ rows) end =
 
 -- ---- sequences
 
-ends : (from : ℕ) (rows : List Row) (end : ℕ) → Ascend from rows end → from ≤ end
+pub ends : (from : ℕ) (rows : List Row) (end : ℕ) → Ascend from rows end → from ≤ end
 ends from [] end le = le
 ends from (r ∷ rows) end h = let more : r.address ≤ end = ends r.address rows end h.1 in omega (arith, h.0, more)
 
@@ -102,7 +112,7 @@ program_long b (s ∷ rest) are =
 
 -- ---- the section
 
-tables_moved : (b : ℕ) (t : LineTable) → tables (moved_table b t) ≡ tables t
+pub tables_moved : (b : ℕ) (t : LineTable) → tables (moved_table b t) ≡ tables t
 unfolding tables
 tables_moved b t = refl
 

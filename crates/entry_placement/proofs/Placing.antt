@@ -15,7 +15,7 @@ use Rattle.dwarf_entry.specs.declared.tree.Entry.{Entry}
 use Rattle.dwarf_entry.specs.declared.tree.TreeItem.{TreeItem}
 use Rattle.dwarf_entry.specs.declared.tree.TreeItem.TheVariants.{Die, Null}
 use Rattle.dwarf_entry.specs.declared.abbreviation.Abbreviation.{Abbreviation}
-use Rattle.dwarf_entry.specs.Declarations.{specification_of, abbreviation_of, code_of}
+use Rattle.dwarf_entry.specs.Declarations.{specification_of, abbreviation_of, code_of, with_one, abbreviations_from, abbreviations_of}
 use Rattle.dwarf_entry.specs.Entries.{value_bytes, attribute_bytes, item_bytes, tree_bytes, offset_of, header_at, encoded, spelling_at}
 use Rattle.elf_relocation.specs.Applied.{applied}
 use Rattle.elf_content.specs.declared.piece.Piece.{Piece}
@@ -98,6 +98,19 @@ module _ (s : SectionSymbols) (addresses : List ℕ) where
   code_moved ds e =
       let same = specifications_moved e.attributes in
       λ i. code_of ds (record { tag = e.tag; children = e.children; attributes = same i })
+
+  one_moved : (before : List Abbreviation) (e : Entry) → with_one before (abbreviation_of (moved_entry e)) ≡ with_one before (abbreviation_of e)
+  one_moved before e =
+      let same = specifications_moved e.attributes in
+      λ i. with_one before (record { tag = e.tag; children = e.children; attributes = same i })
+
+  declared_moved : (before : List Abbreviation) (tree : List TreeItem)
+      → abbreviations_from before (moved_tree code section tree) ≡ abbreviations_from before tree
+  declared_moved before [] = refl
+  declared_moved before (Null ∷ tree) = declared_moved before tree
+  declared_moved before (Die e ∷ tree) =
+      ap (λ (ds : List Abbreviation). abbreviations_from ds (moved_tree code section tree)) (one_moved before e)
+      ∙ declared_moved (with_one before (abbreviation_of e)) tree
 
   -- ---- items
 
@@ -274,3 +287,7 @@ entries_placed s ds tree place addresses near fit =
     content_placed place addresses (unit_pieces s ds tree) (unit_whole s ds tree)
     ∙ unit_placed s addresses ds tree place near
     (recursion_from_All (ItemFitsMoved (symbol_address addresses s.text) (λ name. symbol_address addresses (symbol_of s name))) tree fit)
+
+pub abbreviations_moved : (s : SectionSymbols) (tree : List TreeItem) (addresses : List ℕ)
+    → abbreviations_of (moved_tree (symbol_address addresses s.text) (λ name. symbol_address addresses (symbol_of s name)) tree) ≡ abbreviations_of tree
+abbreviations_moved s tree addresses = declared_moved s addresses [] tree

@@ -3,6 +3,7 @@
 ghost use Rattle.std.specs.Prelude.{◌≡◌, ◌<◌, ◌^◌, ℕ, List, All};
 ghost use Rattle.dwarf_entry.specs.declared.tree.TreeItem.{TreeItem};
 ghost use Rattle.dwarf_entry.specs.declared.abbreviation.Abbreviation.{Abbreviation};
+ghost use Rattle.dwarf_entry.specs.Declarations.{abbreviations_of};
 ghost use Rattle.dwarf_entry.specs.Entries.{spelling_at};
 ghost use Rattle.elf_content.specs.Content.{relocations_from, symbol_address, written, IsWhole};
 ghost use Rattle.elf_relocation.specs.Applied.{applied};
@@ -21,6 +22,10 @@ pub fn placed_entries_are_moved()
         (written (unit_pieces s abbreviations tree))
         ≡ spelling_at (symbol_address addresses s.abbreviations) abbreviations
         (moved_tree (symbol_address addresses s.text) (λ name. symbol_address addresses (symbol_of s name)) tree) }
+    // Moved entries have the same abbreviations.
+    ensures abbreviations { (s : SectionSymbols) (tree : List TreeItem) (addresses : List ℕ)
+        → abbreviations_of (moved_tree (symbol_address addresses s.text)
+        (λ name. symbol_address addresses (symbol_of s name)) tree) ≡ abbreviations_of tree }
     // Each field has the bytes of its kind, so that the relocations can be applied and are apart.
     ensures whole { (s : SectionSymbols) (abbreviations : List Abbreviation) (tree : List TreeItem)
         → All IsWhole (unit_pieces s abbreviations tree) }

@@ -3,5 +3,7 @@
 //! section does.
 #![tactic(auto)]
 
+pub use dwarf_entry as dwarf_entry_crate;
+
 pub mod content;
 pub mod laws;

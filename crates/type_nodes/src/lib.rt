@@ -4,5 +4,6 @@
 
 pub mod laws;
 pub mod shape;
+pub mod sizes;
 pub mod standing;
 mod steps;

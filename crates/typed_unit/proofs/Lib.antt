@@ -1,0 +1,4 @@
+pub mod References
+pub mod Trees
+pub mod Typed
+pub mod Told

@@ -1,0 +1,6 @@
+pub mod Standard
+pub mod Entries
+pub mod Unknown
+pub mod Unit
+pub mod Plain
+pub mod Typed
