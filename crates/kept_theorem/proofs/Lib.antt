@@ -1,1 +1,1 @@
-mod Backtrace
+pub mod Backtrace

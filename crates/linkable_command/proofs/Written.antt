@@ -8,8 +8,11 @@ use Rattle.std.proofs.lemmas.List.Elements.{All-nil, All-from_recursion, recursi
 use Rattle.dwarf_frame.specs.declared.table.FrameDescription.{FrameDescription}
 use Rattle.dwarf_frame.specs.Table.{AreUndefined, MayBeLost, is_fixed}
 use Rattle.dwarf_line_table.specs.Files.{with_new, first_uses}
-use Rattle.debug_placement.specs.Entries.{info_pieces}
 use Rattle.debug_placement.specs.Lines.{line_pieces}
+use Rattle.entry_placement.specs.Pieces.{unit_pieces}
+use Rattle.entry_placement.specs.dwarf_entry.declared.abbreviation.Abbreviation.{Abbreviation}
+use Rattle.entry_placement.specs.dwarf_entry.declared.tree.TreeItem.{TreeItem}
+use Rattle.entry_placement.specs.dwarf_entry.Declarations.{abbreviations_of, abbreviation_section}
 use Rattle.elf_object.specs.declared.object.Section.{Section}
 use Rattle.elf_object.specs.declared.object.Object.{Object}
 use Rattle.elf_object.specs.declared.relocations.Relocation.{Relocation}
@@ -32,26 +35,27 @@ use Rattle.linkable_command.specs.declared.reference.Reference.{Reference}
 use Rattle.linkable_command.specs.declared.tables.DebugTables.{DebugTables}
 use Rattle.linkable_command.specs.References.{references}
 use Rattle.linkable_command.specs.Symbols.{undefined_symbol, named_symbols}
-use Rattle.linkable_command.specs.Linkable.{TEXT, UNIT_SECTIONS, LOST, content_of, plain_content, text_section, debug_section, frame_sections, sections_by}
-use Rattle.linkable_command.specs.Linkable.{sections_of, symbols_of, HaveLinkableNames, HasLargeLinkable, IsLinkableObject}
+use Rattle.linkable_command.specs.Linkable.{TEXT, LOST, unit_sections, content_of, plain_content, text_section, debug_section}
+use Rattle.linkable_command.specs.Linkable.{declaration_section, entry_section, frame_sections, sections_by, sections_of, symbols_of}
+use Rattle.linkable_command.specs.Linkable.{HaveLinkableNames, HasLargeLinkable, IsLinkableObject}
 use Rattle.linkable_command.specs.steps.Sections.{AreFew, IsPlain}
 
 -- ---- sections
 
-frames_few : (frames : Option (List FrameDescription)) → length (frame_sections frames) ≤ 1
-frames_few None = omega arith
-frames_few (Some functions) = omega arith
+last_few : (frames : Option (List FrameDescription)) (s : LinkableSection) → length (frame_sections frames ++ s ∷ []) ≤ 2
+last_few None s = omega arith
+last_few (Some functions) s = omega arith
 
-pub few : (rs : List Relocation) (text abbreviations lists : List ℕ) (t : DebugTables) → AreFew (sections_by rs text abbreviations lists t)
-few rs text abbreviations lists t = omega (arith, frames_few t.frames)
+pub few : (rs : List Relocation) (text lists : List ℕ) (t : DebugTables) → AreFew (sections_by rs text lists t)
+few rs text lists t = omega (arith, last_few t.frames (debug_section (codes ".debug_rnglists") (plain_content t.ranges)))
 
-frames_plain : (frames : Option (List FrameDescription)) → AllByRecursion IsPlain (frame_sections frames)
-frames_plain None = tt
-frames_plain (Some functions) = (record { name = string (codes ".debug_frame") refl; alignment = refl }, tt)
+last_plain : (frames : Option (List FrameDescription)) (s : LinkableSection) → IsPlain s → AllByRecursion IsPlain (frame_sections frames ++ s ∷ [])
+last_plain None s is = (is, tt)
+last_plain (Some functions) s is = (record { name = string (codes ".debug_frame") refl; alignment = refl }, (is, tt))
 
-pub plain : (rs : List Relocation) (text abbreviations lists : List ℕ) (t : DebugTables) → All IsPlain (sections_by rs text abbreviations lists t)
-plain rs text abbreviations lists t =
-    All-from_recursion IsPlain (sections_by rs text abbreviations lists t) (
+pub plain : (rs : List Relocation) (text lists : List ℕ) (t : DebugTables) → All IsPlain (sections_by rs text lists t)
+plain rs text lists t =
+    All-from_recursion IsPlain (sections_by rs text lists t) (
       record { name = string (codes ".text") refl; alignment = refl },
       (
         record { name = string (codes ".debug_abbrev") refl; alignment = refl },
@@ -59,25 +63,42 @@ plain rs text abbreviations lists t =
           record { name = string (codes ".debug_info") refl; alignment = refl },
           (
             record { name = string (codes ".debug_line") refl; alignment = refl },
-            (record { name = string (codes ".debug_loclists") refl; alignment = refl }, frames_plain t.frames),
+            (
+              record { name = string (codes ".debug_loclists") refl; alignment = refl },
+              last_plain t.frames (debug_section (codes ".debug_rnglists") (plain_content t.ranges))
+                  (record { name = string (codes ".debug_rnglists") refl; alignment = refl }),
+            ),
           ),
         ),
       ),
     )
 
-pub all_sections_made : (rs : List Relocation) (text abbreviations lists : List ℕ) (t : DebugTables)
-    (none one two three four five six : List LinkableSection) (a b c d e : LinkableSection) → none ≡ [] → one ≡ none ++ a ∷ [] → two ≡ one ++ b ∷ []
-    → three ≡ two ++ c ∷ [] → four ≡ three ++ d ∷ [] → five ≡ four ++ e ∷ [] → six ≡ five ++ frame_sections t.frames → a ≡ text_section text rs
-    → b ≡ debug_section (codes ".debug_abbrev") (plain_content abbreviations)
-    → c ≡ debug_section (codes ".debug_info") (content_of (info_pieces UNIT_SECTIONS t.unit))
-    → d ≡ debug_section (codes ".debug_line") (content_of (line_pieces TEXT t.rows)) → e ≡ debug_section (codes ".debug_loclists") (plain_content lists)
-    → six ≡ sections_by rs text abbreviations lists t
-all_sections_made rs text abbreviations lists t none one two three four five six a b c d e is_none is_one is_two is_three is_four is_five is_six is_a is_b
-    is_c is_d is_e =
+pub entries_made : (t : DebugTables) (entries : List TreeItem) (declared : List Abbreviation) (before one two : List LinkableSection)
+    (a b : LinkableSection) → entries ≡ t.entries → declared ≡ abbreviations_of entries → one ≡ before ++ a ∷ [] → two ≡ one ++ b ∷ []
+    → a ≡ debug_section (codes ".debug_abbrev") (plain_content (abbreviation_section declared))
+    → b ≡ debug_section (codes ".debug_info") (content_of (unit_pieces (unit_sections t.frames) declared entries))
+    → two ≡ before ++ declaration_section t ∷ entry_section t ∷ []
+entries_made t entries declared before one two a b same are is_one is_two is_a is_b =
+    let all : declared ≡ abbreviations_of t.entries = are ∙ ap (λ (xs : List TreeItem). abbreviations_of xs) same in
+    is_two
+    ∙ (λ i. is_one i ++ b ∷ [])
+    ∙ append_assoc before (a ∷ []) (b ∷ [])
+    ∙ (λ i. before ++ is_a i ∷ is_b i ∷ [])
+    ∙ (λ i. before ++ debug_section (codes ".debug_abbrev") (plain_content (abbreviation_section (all i)))
+    ∷ debug_section (codes ".debug_info") (content_of (unit_pieces (unit_sections t.frames) (all i) (same i))) ∷ [])
+
+pub all_sections_made : (rs : List Relocation) (text lists : List ℕ) (t : DebugTables) (none one two three four five six : List LinkableSection)
+    (a c d e : LinkableSection) → none ≡ [] → one ≡ none ++ a ∷ [] → two ≡ one ++ declaration_section t ∷ entry_section t ∷ [] → three ≡ two ++ c ∷ []
+    → four ≡ three ++ d ∷ [] → five ≡ four ++ frame_sections t.frames → six ≡ five ++ e ∷ [] → a ≡ text_section text rs
+    → c ≡ debug_section (codes ".debug_line") (content_of (line_pieces TEXT t.rows)) → d ≡ debug_section (codes ".debug_loclists") (plain_content lists)
+    → e ≡ debug_section (codes ".debug_rnglists") (plain_content t.ranges) → six ≡ sections_by rs text lists t
+all_sections_made rs text lists t none one two three four five six a c d e is_none is_one is_two is_three is_four is_five is_six is_a is_c is_d is_e =
     is_six
     ∙ (λ i. (is_five
-    ∙ (λ j. (is_four ∙ (λ k. (is_three ∙ (λ l. (is_two ∙ (λ m. (is_one ∙ (λ n. is_none n ++ is_a n ∷ [])) m ++ is_b m ∷ [])) l ++ is_c l ∷ [])) k
-    ++ is_d k ∷ [])) j ++ is_e j ∷ [])) i ++ frame_sections t.frames)
+    ∙ (λ j. (is_four
+    ∙ (λ k. (is_three
+    ∙ (λ l. (is_two ∙ (λ m. (is_one ∙ (λ n. is_none n ++ is_a n ∷ [])) m ++ declaration_section t ∷ entry_section t ∷ [])) l ++ is_c l ∷ [])) k
+    ++ is_d k ∷ [])) j ++ frame_sections t.frames)) i ++ is_e i ∷ [])
 
 -- ---- registers whose values a function may lose
 

@@ -3,7 +3,6 @@ use Rattle.std.specs.Prelude.{ℕ, ◌+◌, ◌<◌, ◌≤◌, ◌^◌, List, [
 use Rattle.dwarf_frame.specs.declared.table.FrameDescription.{FrameDescription}
 use Rattle.dwarf_frame.specs.Spelling.{spelling as frame_spelling}
 use Rattle.dwarf_frame.specs.Table.{IsDescription}
-use Rattle.dwarf_info.specs.Entries.{spelling as entries_spelling, HasTypes}
 use Rattle.dwarf_line.specs.Spelling.{spelling as rows_spelling}
 use Rattle.dwarf_line.specs.Table.{HasNames, IsSequence}
 use Rattle.listing_text.specs.declared.output.ListedFunction.{ListedFunction}
@@ -17,10 +16,13 @@ use Rattle.elf_content.specs.declared.piece.Piece.{Piece}
 use Rattle.elf_content.specs.Content.{written, relocations_from}
 use Rattle.elf_linkable.specs.declared.section.LinkableSection.{LinkableSection}
 use Rattle.elf_linkable.specs.Linkable.{object_of, section_symbols, IsLinkableFile}
-use Rattle.debug_placement.specs.declared.sections.UnitSections.{UnitSections}
-use Rattle.debug_placement.specs.Entries.{info_pieces}
 use Rattle.debug_placement.specs.Frames.{frame_pieces}
 use Rattle.debug_placement.specs.Lines.{line_pieces}
+use Rattle.entry_placement.specs.declared.content.SectionSymbols.{SectionSymbols}
+use Rattle.entry_placement.specs.Pieces.{unit_pieces}
+use Rattle.entry_placement.specs.dwarf_entry.declared.tree.TreeItem.{TreeItem}
+use Rattle.entry_placement.specs.dwarf_entry.Declarations.{abbreviations_of, abbreviation_section}
+use Rattle.entry_placement.specs.dwarf_entry.Entries.{spelling as entries_spelling, RefersWithin}
 use Rattle.object_command.specs.Object.{IsSymbolName}
 use Rattle.linkable_command.specs.declared.tables.DebugTables.{DebugTables}
 use Rattle.linkable_command.specs.References.{references}
@@ -31,17 +33,30 @@ use Rattle.linkable_command.specs.Symbols.{named_symbols, code_relocations}
 abbrev pub TEXT : ℕ
 TEXT = 1
 
+abbrev pub ABBREVIATIONS : ℕ
+ABBREVIATIONS = 2
+
+abbrev pub ENTRIES : ℕ
+ENTRIES = 3
+
+abbrev pub ROWS : ℕ
+ROWS = 4
+
+abbrev pub LISTS : ℕ
+LISTS = 5
+
 abbrev pub FRAME : ℕ
 FRAME = 6
 
--- those to which debugging information entries refer: no unit has range lists
-abbrev pub UNIT_SECTIONS : UnitSections
-UNIT_SECTIONS = record { text = TEXT; abbreviations = 2; lines = 4; lists = 5; ranges = 0 }
-
 -- the sections, with and without `.debug_frame`
 abbrev pub section_count : Option (List FrameDescription) → ℕ
-section_count None = 5
-section_count (Some functions) = 6
+section_count None = 6
+section_count (Some functions) = 7
+
+-- those to which debugging information entries refer: range lists stand last
+abbrev pub unit_sections : Option (List FrameDescription) → SectionSymbols
+unit_sections frames =
+    record { text = TEXT; abbreviations = ABBREVIATIONS; lines = ROWS; location_lists = LISTS; range_lists = section_count frames }
 
 -- ---- sections
 
@@ -74,12 +89,27 @@ abbrev pub frame_sections : Option (List FrameDescription) → List LinkableSect
 frame_sections None = []
 frame_sections (Some functions) = debug_section (codes ".debug_frame") (content_of (frame_pieces FRAME TEXT LOST functions)) ∷ []
 
-abbrev pub sections_by : (relocations : List Relocation) → (text abbreviations lists : List ℕ) → DebugTables → List LinkableSection
-sections_by relocations text abbreviations lists t =
-    text_section text relocations ∷ debug_section (codes ".debug_abbrev") (plain_content abbreviations)
-    ∷ debug_section (codes ".debug_info") (content_of (info_pieces UNIT_SECTIONS t.unit))
-    ∷ debug_section (codes ".debug_line") (content_of (line_pieces TEXT t.rows)) ∷ debug_section (codes ".debug_loclists") (plain_content lists)
-    ∷ frame_sections t.frames
+-- the pieces of a tree of entries
+abbrev pub entry_pieces : DebugTables → List Piece
+entry_pieces t = unit_pieces (unit_sections t.frames) (abbreviations_of t.entries) t.entries
+
+-- the section of a tree of entries, by its own abbreviations
+abbrev pub entry_bytes : List TreeItem → List ℕ
+entry_bytes tree = entries_spelling (abbreviations_of tree) tree
+
+-- its abbreviations
+abbrev pub declaration_section : DebugTables → LinkableSection
+declaration_section t = debug_section (codes ".debug_abbrev") (plain_content (abbreviation_section (abbreviations_of t.entries)))
+
+-- the tree itself
+abbrev pub entry_section : DebugTables → LinkableSection
+entry_section t = debug_section (codes ".debug_info") (content_of (entry_pieces t))
+
+abbrev pub sections_by : (relocations : List Relocation) → (text lists : List ℕ) → DebugTables → List LinkableSection
+sections_by relocations text lists t =
+    text_section text relocations ∷ declaration_section t ∷ entry_section t ∷ debug_section (codes ".debug_line") (content_of (line_pieces TEXT t.rows))
+    ∷ debug_section (codes ".debug_loclists") (plain_content lists)
+    ∷ (frame_sections t.frames ++ debug_section (codes ".debug_rnglists") (plain_content t.ranges) ∷ [])
 
 -- the relocations of an output's machine code
 abbrev pub output_relocations : Output → DebugTables → List Relocation
@@ -87,7 +117,7 @@ output_relocations o t = code_relocations (section_count t.frames) o.functions
 
 -- the sections of an output, with these location lists
 abbrev pub sections_of : Output → (lists : List ℕ) → DebugTables → List LinkableSection
-sections_of o lists t = sections_by (output_relocations o t) o.text o.abbreviations lists t
+sections_of o lists t = sections_by (output_relocations o t) o.text lists t
 
 -- the symbols: those of the sections, and those of functions and other names
 abbrev pub symbols_of : Output → (lists : List ℕ) → DebugTables → List Symbol
@@ -112,8 +142,8 @@ pub record HasLargeLinkable (flags : ℕ) (o : Output) (lists : List ℕ) (t : D
 
 -- the contents of debug sections can be written
 pub record AreWritable (t : DebugTables) : Type 0 where
-  pub types : All (HasTypes (length t.unit.types)) t.unit.functions
-  pub info : length (entries_spelling t.unit) < 2 ^ 31
+  pub references : RefersWithin t.entries
+  pub info : length (entry_bytes t.entries) < 2 ^ 31
   pub names : HasNames t.rows
   pub sequences : All IsSequence t.rows.sequences
   pub rows : length (rows_spelling t.rows) < 2 ^ 31

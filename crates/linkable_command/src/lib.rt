@@ -2,6 +2,8 @@
 //! globals, debug sections with their relocations, and symbols (System V gABI, chapter 4, and RISC-V ELF psABI).
 #![tactic(auto)]
 
+pub use entry_placement as entry_placement_crate;
+
 mod fits;
 mod names;
 pub mod object;

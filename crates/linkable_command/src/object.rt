@@ -96,7 +96,7 @@ fn linked(
 {
     let Output {
         text,
-        abbreviations,
+        abbreviations: _,
         info: _,
         rows: _,
         loclists: _,
@@ -104,7 +104,7 @@ fn linked(
         ranges: _,
         functions: _,
     } = output;
-    let sections = sections(alloc, relocations, text, abbreviations, lists, t)?;
+    let sections = sections(alloc, relocations, text, lists, t)?;
     let mut symbols = section_symbols(alloc, sections.as_slice())?;
     append(&mut symbols, named)?;
     file(alloc, flags, sections, symbols.as_slice())

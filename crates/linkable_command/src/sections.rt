@@ -1,31 +1,35 @@
 //! The sections of an object that a linker places.
 
-ghost use Rattle.std.specs.Prelude.{◌≡◌, ◌<◌, ◌^◌, ◌++◌, codes, length, All, IfSome, OnOk, IfOk};
+ghost use Rattle.std.specs.Prelude.{◌≡◌, ◌<◌, ◌≤◌, ◌^◌, ◌++◌, ◌∷◌, ◌↔◌, [], codes, length, IsNone, All, IfSome, OnOk, IfOk};
 ghost use Rattle.dwarf_frame.specs.Spelling.{spelling as frame_spelling};
 ghost use Rattle.dwarf_frame.specs.Table.{IsDescription};
 ghost use Rattle.linkable_command.specs.Linkable;
-ghost use Rattle.dwarf_info.specs.Entries.{spelling as entries_spelling, HasTypes};
 ghost use Rattle.dwarf_line.specs.Spelling.{spelling as rows_spelling};
 ghost use Rattle.dwarf_line.specs.Table.{HasNames, IsSequence};
-ghost use Rattle.debug_placement.specs.Entries;
 ghost use Rattle.debug_placement.specs.Frames;
 ghost use Rattle.debug_placement.specs.Lines;
-ghost use Rattle.linkable_command.specs.Linkable.{content_of, frame_sections, plain_content, sections_by};
-ghost use Rattle.linkable_command.specs.Linkable.{AreWritable, LOST, UNIT_SECTIONS};
+ghost use Rattle.entry_placement.specs.Pieces.{unit_pieces};
+ghost use Rattle.entry_placement.specs.dwarf_entry.Declarations.{abbreviation_section};
+ghost use Rattle.entry_placement.specs.dwarf_entry.Entries.{spelling as entries_spelling, RefersWithin};
+ghost use Rattle.linkable_command.specs.Linkable.{content_of, entry_bytes, frame_sections, plain_content};
+ghost use Rattle.linkable_command.specs.Linkable.{sections_by, unit_sections, AreWritable, LOST};
 
 use crate::tables::{DebugTables, FrameDescriptions};
-use debug_content::entries::info_pieces;
 use debug_content::frames::frame_pieces;
 use debug_content::lines::line_pieces;
-use debug_placement::sections::UnitSections;
 use dwarf_frame::table::FrameDescription;
-use dwarf_info::unit::Unit;
 use dwarf_line::table::LineTable;
 use elf_content::content::{Content, Relocations, make_content};
 use elf_content::piece::Piece;
 use elf_linkable::section::{LinkableSection, LinkableSections};
 use elf_object::constants::{SHF_ALLOC, SHF_EXECINSTR};
 use elf_object::object::{Bytes, Name};
+use entry_placement::content::{SectionSymbols, entry_content};
+use entry_placement::dwarf_entry_crate::abbreviation::{
+    Abbreviation, abbreviations_of, write_abbreviations,
+};
+use entry_placement::dwarf_entry_crate::size::entries_size;
+use entry_placement::dwarf_entry_crate::tree::TreeItem;
 use std::alloc::{AllocError, Global};
 
 static TEXT_NAME: [u8; 5] = *b".text";
@@ -40,8 +44,16 @@ static LOCLISTS: [u8; 15] = *b".debug_loclists";
 
 static FRAME_NAME: [u8; 12] = *b".debug_frame";
 
+static RNGLISTS: [u8; 15] = *b".debug_rnglists";
+
 /// The index of `.text`.
 const TEXT: u32 = 1;
+/// The index of `.debug_abbrev`.
+const ABBREVIATIONS: u32 = 2;
+/// The index of `.debug_line`.
+const ROWS: u32 = 4;
+/// The index of `.debug_loclists`.
+const LISTS: u32 = 5;
 /// The index of `.debug_frame`.
 const FRAME: u32 = 6;
 
@@ -53,9 +65,18 @@ pub fn section_count(frames: &Option<FrameDescriptions>) -> u32
     ensures { result ≡ Linkable.section_count frames.now }
 {
     match frames {
-        None => 5,
-        Some(_) => 6,
+        None => 6,
+        Some(_) => 7,
     }
+}
+
+/// The size of the section of a tree of entries in bytes, and `None` if and only if it is 2^31 or more. The error is
+/// out of memory.
+pub fn entry_size(alloc: Global, entries: &[TreeItem]) -> Result<Option<u32>, AllocError>
+    ensures { IfOk result (λ size. IsNone size ↔ (2 ^ 31 ≤ length (entry_bytes entries.now))) }
+{
+    let abbreviations = abbreviations_of(alloc, entries)?;
+    Ok(entries_size(abbreviations.as_slice(), entries))
 }
 
 /// The sections of machine code with its relocations, and of debugging information.
@@ -63,39 +84,81 @@ pub fn sections(
     alloc: Global,
     relocations: Relocations,
     text: Bytes,
-    abbreviations: Bytes,
     lists: Bytes,
     t: &DebugTables,
 ) -> Result<LinkableSections, AllocError>
     requires { AreWritable t.now }
-    ensures { IfOk result (λ sections. sections ≡ sections_by relocations text abbreviations lists t.now) }
+    ensures { IfOk result (λ sections. sections ≡ sections_by relocations text lists t.now) }
 {
     let mut sections = LinkableSections::new(alloc);
     sections.push(text_section(alloc, text, relocations)?)?;
-    sections.push(plain_section(alloc, &ABBREV, abbreviations)?)?;
-    sections.push(entry_section(alloc, &t.unit)?)?;
+    push_entries(alloc, &mut sections, t)?;
     sections.push(row_section(alloc, &t.rows)?)?;
     sections.push(plain_section(alloc, &LOCLISTS, lists)?)?;
     push_frame(alloc, &mut sections, &t.frames)?;
+    sections.push(range_section(alloc, t.ranges.as_slice())?)?;
     Ok(sections)
 }
 
-/// The section of debugging information entries.
-fn entry_section(alloc: Global, unit: &Unit) -> Result<LinkableSection, AllocError>
-    requires types { All (HasTypes (length unit.now.types)) unit.now.functions }
-    requires size { length (entries_spelling unit.now) < 2 ^ 31 }
-    ensures { IfOk result (λ s. s
-        ≡ Linkable.debug_section (codes ".debug_info") (content_of (Entries.info_pieces UNIT_SECTIONS unit.now))) }
+/// Appends the sections of a tree of entries and, before it, of its abbreviations.
+fn push_entries(
+    alloc: Global,
+    sections: &mut LinkableSections,
+    t: &DebugTables,
+) -> Result<(), AllocError>
+    requires { AreWritable t.now }
+    ensures { OnOk result (sections.new
+        ≡ sections.old ++ Linkable.declaration_section t.now ∷ Linkable.entry_section t.now ∷ []) }
 {
-    let numbers = UnitSections {
+    let entries = t.entries.as_slice();
+    let abbreviations = abbreviations_of(alloc, entries)?;
+    let declared = abbreviations.as_slice();
+    sections.push(declaration_section(alloc, declared)?)?;
+    sections.push(entry_section(alloc, &t.frames, declared, entries)?)?;
+    Ok(())
+}
+
+/// The section of abbreviations.
+fn declaration_section(
+    alloc: Global,
+    abbreviations: &[Abbreviation],
+) -> Result<LinkableSection, AllocError>
+    ensures { IfOk result (λ s. s ≡ Linkable.debug_section (codes ".debug_abbrev")
+        (plain_content (abbreviation_section abbreviations.now))) }
+{
+    let bytes = write_abbreviations(alloc, abbreviations)?;
+    plain_section(alloc, &ABBREV, bytes)
+}
+
+/// The section of a tree of entries.
+fn entry_section(
+    alloc: Global,
+    frames: &Option<FrameDescriptions>,
+    abbreviations: &[Abbreviation],
+    entries: &[TreeItem],
+) -> Result<LinkableSection, AllocError>
+    requires references { RefersWithin entries.now }
+    requires size { length (entries_spelling abbreviations.now entries.now) < 2 ^ 31 }
+    ensures { IfOk result (λ s. s ≡ Linkable.debug_section (codes ".debug_info")
+        (content_of (unit_pieces (unit_sections frames.now) abbreviations.now entries.now))) }
+{
+    let numbers = SectionSymbols {
         text: TEXT,
-        abbreviations: 2,
-        lines: 4,
-        lists: 5,
-        ranges: 0,
+        abbreviations: ABBREVIATIONS,
+        lines: ROWS,
+        location_lists: LISTS,
+        range_lists: section_count(frames),
     };
-    let pieces = info_pieces(alloc, &numbers, unit)?;
-    piece_section(alloc, &INFO, pieces.as_slice())
+    let content = entry_content(alloc, &numbers, abbreviations, entries)?;
+    debug_section(alloc, &INFO, content)
+}
+
+/// The section of range lists.
+fn range_section(alloc: Global, ranges: &[u8]) -> Result<LinkableSection, AllocError>
+    ensures { IfOk result (λ s. s ≡ Linkable.debug_section (codes ".debug_rnglists") (plain_content ranges.now)) }
+{
+    let bytes = Bytes::from_slice(alloc, ranges)?;
+    plain_section(alloc, &RNGLISTS, bytes)
 }
 
 /// The section of rows.
@@ -165,25 +228,32 @@ fn piece_section(
     ensures { IfOk result (λ s. s ≡ Linkable.debug_section name.now (content_of pieces.now)) }
 {
     let content = make_content(alloc, pieces)?;
-    Ok(LinkableSection {
-        name: Name::from_slice(alloc, name)?,
-        flags: 0,
-        alignment: 1,
-        content,
-    })
+    debug_section(alloc, name, content)
 }
 
 /// A section of debugging information that no relocation changes.
 fn plain_section(alloc: Global, name: &[u8], bytes: Bytes) -> Result<LinkableSection, AllocError>
     ensures { IfOk result (λ s. s ≡ Linkable.debug_section name.now (plain_content bytes)) }
 {
+    let content = Content {
+        bytes,
+        relocations: Relocations::new(alloc),
+    };
+    debug_section(alloc, name, content)
+}
+
+/// A section of debugging information.
+fn debug_section(
+    alloc: Global,
+    name: &[u8],
+    content: Content,
+) -> Result<LinkableSection, AllocError>
+    ensures { IfOk result (λ s. s ≡ Linkable.debug_section name.now content) }
+{
     Ok(LinkableSection {
         name: Name::from_slice(alloc, name)?,
         flags: 0,
         alignment: 1,
-        content: Content {
-            bytes,
-            relocations: Relocations::new(alloc),
-        },
+        content,
     })
 }

@@ -2,8 +2,9 @@
 
 use base_list::List;
 use dwarf_frame::table::FrameDescription;
-use dwarf_info::unit::Unit;
 use dwarf_line::table::LineTable;
+use elf_object::object::Bytes;
+use entry_placement::dwarf_entry_crate::tree::Tree;
 
 /// The call frame information of functions, in their order.
 pub type FrameDescriptions = List<FrameDescription>;
@@ -12,9 +13,11 @@ pub type FrameDescriptions = List<FrameDescription>;
 #[derive(Debug, Drop)]
 pub struct DebugTables {
     /// The entries of `.debug_info`.
-    pub unit: Unit,
+    pub entries: Tree,
     /// The rows of `.debug_line`.
     pub rows: LineTable,
     /// The functions of `.debug_frame`, if it is asked for.
     pub frames: Option<FrameDescriptions>,
+    /// The bytes of `.debug_rnglists`.
+    pub ranges: Bytes,
 }

@@ -1,5 +1,5 @@
 -- An object where a linker places it.
-use Rattle.std.specs.Prelude.{All, Option, Some, None, cond, is_some}
+use Rattle.std.specs.Prelude.{All, Option, Some, None, cond, codes, is_some}
 use Rattle.std.specs.List.{AllByRecursion, flat_map, list_any, position_or_len}
 use Rattle.std.proofs.Common.{◌≡◌, ℕ, suc, ◌+◌, ◌<◌, ◌≤◌, ◌%◌, ◌^◌, ℤ, pos, negsuc, Bool, true, false, not, ◌||◌, List, [], ◌∷◌, ◌++◌, length, map}
 use Rattle.std.proofs.Common.{arith, ap, sym, ◌∙◌, refl, subst, length-append, true≢false}
@@ -36,9 +36,10 @@ use Rattle.elf_content.specs.Content.{symbol_address}
 use Rattle.elf_linkable.specs.Linkable.{section_symbols}
 use Rattle.elf_linkable.specs.declared.section.LinkableSection.{LinkableSection}
 use Rattle.rv64_relocation.specs.Code.{half_kind, kind_by}
-use Rattle.debug_placement.proofs.EntryProofs.{entries_placed}
 use Rattle.debug_placement.proofs.FrameProofs.{frames_placed}
 use Rattle.debug_placement.proofs.LineProofs.{lines_placed}
+use Rattle.entry_placement.proofs.Placing.{entries_placed, abbreviations_moved}
+use Rattle.entry_placement.specs.dwarf_entry.Declarations.{abbreviations_of}
 use Rattle.text_placement.specs.Placed.{SymbolPlaces, PlacedLine, site_name, way_name, callee_name, relocations_by, line_relocations, Lie}
 use Rattle.text_placement.specs.Placed.{HasNumber, IsPlacedLine, AreLines, NamesFunctions, text_relocations}
 use Rattle.text_placement.proofs.LineProofs.{lines_placed as lines_run}
@@ -47,8 +48,8 @@ use Rattle.linkable_command.specs.declared.reference.Reference.{Reference}
 use Rattle.linkable_command.specs.declared.tables.DebugTables.{DebugTables}
 use Rattle.linkable_command.specs.References.{reference_by, line_references, references_in, references}
 use Rattle.linkable_command.specs.Symbols.{undefined_symbol, named_symbols, relocation_by}
-use Rattle.linkable_command.specs.Linkable.{TEXT, FRAME, UNIT_SECTIONS, LOST}
-use Rattle.linkable_command.specs.Linkable.{section_count, frame_sections, sections_of, symbols_of, output_relocations, AreWritable}
+use Rattle.linkable_command.specs.Linkable.{TEXT, ENTRIES, ROWS, FRAME, LOST, section_count, unit_sections, plain_content, debug_section, frame_sections}
+use Rattle.linkable_command.specs.Linkable.{sections_of, symbols_of, output_relocations, AreWritable}
 use Rattle.linkable_placement.specs.Placement.{Placement, base_of, address_of, addresses_of, places_of, placed_line, output_lines, FramesFit}
 use Rattle.linkable_placement.specs.Placement.{Fits, FramesMoved, IsPlaced}
 
@@ -214,9 +215,9 @@ length-sections : (k : ℕ) (sections : List LinkableSection) → length (sectio
 length-sections k [] = refl
 length-sections k (s ∷ sections) = ap (λ (n : ℕ). suc n) (length-sections (suc k) sections)
 
-frames_counted : (frames : Option (List FrameDescription)) → section_count frames ≡ 5 + length (frame_sections frames)
-frames_counted None = refl
-frames_counted (Some functions) = refl
+last_counted : (frames : Option (List FrameDescription)) (s : LinkableSection) → section_count frames ≡ 5 + length (frame_sections frames ++ s ∷ [])
+last_counted None s = refl
+last_counted (Some functions) s = refl
 
 -- ---- the object
 
@@ -233,14 +234,15 @@ module _ (names : ℕ → List ℕ) (sources : List SourceFunction) (o : Output)
 
   symbols_counted : before + length named ≡ length addresses
   symbols_counted =
-      let many : length (sections_of o lists t) ≡ 5 + length (frame_sections t.frames) = omega arith in
+      let last : LinkableSection = debug_section (codes ".debug_rnglists") (plain_content t.ranges) in
+      let many : length (sections_of o lists t) ≡ 5 + length (frame_sections t.frames ++ last ∷ []) = omega arith in
       omega (
         arith,
         many,
         length-map (symbols_of o lists t) (address_of p),
         length-append (section_symbols 1 (sections_of o lists t)) named,
         length-sections 1 (sections_of o lists t),
-        frames_counted t.frames,
+        last_counted t.frames last,
       )
 
   same : output_relocations o t ≡ text_relocations (output_lines o t)
@@ -291,7 +293,8 @@ module _ (names : ℕ → List ℕ) (sources : List SourceFunction) (o : Output)
   pub object_placed : IsPlaced p o lists t
   object_placed = record {
     lines = lines_placed_here;
-    entries = entries_placed UNIT_SECTIONS t.unit (base_of p 3) addresses fit.entries;
-    rows = lines_placed t.rows TEXT (base_of p 4) addresses writable.sequences fit.rows;
+    entries = entries_placed (unit_sections t.frames) (abbreviations_of t.entries) t.entries (base_of p ENTRIES) addresses fit.abbreviations fit.entries;
+    same = abbreviations_moved (unit_sections t.frames) t.entries addresses;
+    rows = lines_placed t.rows TEXT (base_of p ROWS) addresses writable.sequences fit.rows;
     frames = frames_moved t.frames fit.frames;
   }

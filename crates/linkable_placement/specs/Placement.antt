@@ -12,16 +12,21 @@ use Rattle.elf_object.specs.Standard.{SHN_UNDEF}
 use Rattle.elf_relocation.specs.Applied.{applied}
 use Rattle.elf_content.specs.declared.content.Content.{Content}
 use Rattle.elf_content.specs.Content.{symbol_address}
-use Rattle.debug_placement.specs.Entries.{info_pieces, spelling_in, unit_places, UnitFits}
 use Rattle.debug_placement.specs.Frames
 use Rattle.debug_placement.specs.Frames.{frame_pieces, moved_description, spelling_by}
 use Rattle.debug_placement.specs.Lines
 use Rattle.debug_placement.specs.Lines.{line_pieces, moved_table}
+use Rattle.entry_placement.specs.Moved.{moved_tree, ItemFitsMoved}
+use Rattle.entry_placement.specs.Pieces.{symbol_of}
+use Rattle.entry_placement.specs.dwarf_entry.declared.tree.TreeItem.{TreeItem}
+use Rattle.entry_placement.specs.dwarf_entry.Declarations.{abbreviations_of}
+use Rattle.entry_placement.specs.dwarf_entry.Entries.{spelling_at}
 use Rattle.text_placement.specs.Placed.{SymbolPlaces, PlacedLine, IsPlacedLine}
 use Rattle.linkable_command.specs.declared.tables.DebugTables.{DebugTables}
 use Rattle.linkable_command.specs.References.{symbol_name}
 use Rattle.linkable_command.specs.Symbols.{named_symbols}
-use Rattle.linkable_command.specs.Linkable.{TEXT, FRAME, UNIT_SECTIONS, LOST, section_count, content_of, output_relocations, symbols_of}
+use Rattle.linkable_command.specs.Linkable.{TEXT, ABBREVIATIONS, ENTRIES, ROWS, FRAME, LOST, section_count, unit_sections, content_of, entry_pieces}
+use Rattle.linkable_command.specs.Linkable.{output_relocations, symbols_of}
 
 -- ---- a placement
 
@@ -65,6 +70,14 @@ output_lines o t = placed_lines (places_of (section_count t.frames) (named_symbo
 
 -- ---- what an object is there
 
+-- the address of the section to which an attribute of a name refers
+abbrev pub section_named : (addresses : List ℕ) → DebugTables → (name : ℕ) → ℕ
+section_named addresses t name = symbol_address addresses (symbol_of (unit_sections t.frames) name)
+
+-- the tree of entries there
+abbrev pub moved_entries : (addresses : List ℕ) → DebugTables → List TreeItem
+moved_entries addresses t = moved_tree (symbol_address addresses TEXT) (section_named addresses t) t.entries
+
 -- the functions of `.debug_frame`, if there is one
 abbrev pub FramesFit : (text frame : ℕ) → Option (List FrameDescription) → Type 0
 FramesFit text frame None = Unit {0}
@@ -74,7 +87,8 @@ FramesFit text frame (Some functions) = (frame < 2 ^ 32) × All (Frames.EndsBelo
 pub record Fits (p : Placement) (o : Output) (lists : List ℕ) (t : DebugTables) : Type 0 where
   pub symbols : (k : ℕ) → slice_index (addresses_of p o lists t) k < 2 ^ 64
   pub text : base_of p TEXT + length o.text < 2 ^ 64
-  pub entries : UnitFits (unit_places (addresses_of p o lists t) UNIT_SECTIONS) t.unit.functions
+  pub abbreviations : symbol_address (addresses_of p o lists t) ABBREVIATIONS < 2 ^ 32
+  pub entries : All (ItemFitsMoved (symbol_address (addresses_of p o lists t) TEXT) (section_named (addresses_of p o lists t) t)) t.entries
   pub rows : All (Lines.EndsBelow (symbol_address (addresses_of p o lists t) TEXT)) t.rows.sequences
   pub frames : FramesFit (symbol_address (addresses_of p o lists t) TEXT) (symbol_address (addresses_of p o lists t) FRAME) t.frames
 
@@ -86,12 +100,13 @@ FramesMoved p addresses (Some functions) = placed_content p addresses FRAME (con
 
 -- The sections of an object after their relocations. Each word of the code is the one that a machine runs in the environment of the placement, and the two
 -- words for a function by its name go to it, if it is in range. The debug sections are those of the same entries, rows and functions, with each address moved
--- by where the code is, and each offset by where its section is.
+-- by where the code is, and each offset by where its section is. Moved entries have the same abbreviations.
 pub record IsPlaced (p : Placement) (o : Output) (lists : List ℕ) (t : DebugTables) : Type 0 where
   pub lines : All (IsPlacedLine (base_of p TEXT) (addresses_of p o lists t) o.text
       (placed_content p (addresses_of p o lists t) TEXT (record { bytes = o.text; relocations = output_relocations o t }))) (output_lines o t)
-  pub entries : placed_content p (addresses_of p o lists t) 3 (content_of (info_pieces UNIT_SECTIONS t.unit))
-      ≡ spelling_in (unit_places (addresses_of p o lists t) UNIT_SECTIONS) t.unit
-  pub rows : placed_content p (addresses_of p o lists t) 4 (content_of (line_pieces TEXT t.rows))
+  pub entries : placed_content p (addresses_of p o lists t) ENTRIES (content_of (entry_pieces t))
+      ≡ spelling_at (symbol_address (addresses_of p o lists t) ABBREVIATIONS) (abbreviations_of t.entries) (moved_entries (addresses_of p o lists t) t)
+  pub same : abbreviations_of (moved_entries (addresses_of p o lists t) t) ≡ abbreviations_of t.entries
+  pub rows : placed_content p (addresses_of p o lists t) ROWS (content_of (line_pieces TEXT t.rows))
       ≡ rows_spelling (moved_table (symbol_address (addresses_of p o lists t) TEXT) t.rows)
   pub frames : FramesMoved p (addresses_of p o lists t) t.frames

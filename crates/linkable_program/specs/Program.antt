@@ -1,12 +1,15 @@
 -- The object that a linker places of a program that was compiled.
-use Rattle.std.specs.Prelude.{◌≡◌, ℕ, ◌≤◌, ◌⊎◌, Bool, true, List, length, map, IfSome, is_some}
+use Rattle.std.specs.Prelude.{◌≡◌, ℕ, ◌≤◌, ◌⊎◌, Bool, true, List, [], length, map, IfSome, is_some}
 use Rattle.std.specs.List.{AllZip}
 use Rattle.dwarf_base.specs.Limits.{SECTION_LIMIT}
-use Rattle.dwarf_info.specs.Entries.{spelling as entries_spelling}
 use Rattle.dwarf_line.specs.Spelling.{spelling as rows_spelling}
 use Rattle.dwarf_loclists.specs.declared.range.Range.{Range}
 use Rattle.dwarf_loclists.specs.Grammar.{IsSection}
 use Rattle.dwarf_loclists.specs.Spelling.{spelling as lists_spelling}
+use Rattle.dwarf_rnglists.specs.Grammar.{IsSection as AreRanges}
+use Rattle.dwarf_rnglists.specs.Spelling.{spelling as ranges_spelling}
+use Rattle.typed_unit.specs.Plain.{plain_types, plain_unit}
+use Rattle.typed_unit.specs.Unit.{IsTypedTree}
 use Rattle.dwarf_sections.specs.dwarf_line_table.declared.source_and_code.SourceAndCode.{SourceAndCode}
 use Rattle.dwarf_sections.specs.dwarf_line_table.Program.{table_of}
 use Rattle.dwarf_sections.specs.Frame.{IsLargeFrameSection}
@@ -17,24 +20,37 @@ use Rattle.kept_lists.specs.Kept.{AllKept}
 use Rattle.compile_program.specs.read_program.declared.program.Program.{Program}
 use Rattle.compile_program.specs.declared.compile.Compilation.{Compilation}
 use Rattle.linkable_command.specs.declared.tables.DebugTables.{DebugTables}
-use Rattle.linkable_command.specs.Linkable.{LOST, AreWritable, HasLargeLinkable, IsLinkableObject}
+use Rattle.linkable_command.specs.entry_placement.dwarf_entry.declared.tree.TreeItem.{TreeItem}
+use Rattle.linkable_command.specs.Linkable.{LOST, entry_bytes, AreWritable, HasLargeLinkable, IsLinkableObject}
 
 -- ---- the contents of debug sections
 
--- the contents are those of the debug sections of functions, with so many bytes of code: the entries of their unit, the rows of their lines, and the call frame
--- information of their code, if it is asked for
+-- the tree is that of the entries of functions, with so many bytes of code, which tell the frame base of each function where there is `.debug_frame`
+abbrev pub IsTreeOf : Maps → (text_len : ℕ) → (with_frame : Bool) → List SourceAndCode → List TreeItem → Type 0
+IsTreeOf meta text_len with_frame compiled tree =
+    IsTypedTree (plain_types (unit_of meta text_len compiled)) (plain_unit with_frame (unit_of meta text_len compiled)) tree
+
+-- the contents are those of the debug sections of functions, with so many bytes of code: the tree of entries of their unit, the rows of their lines, the call
+-- frame information of their code, if it is asked for, and no range lists
 pub record AreTables (meta : Maps) (text_len : ℕ) (with_frame : Bool) (compiled : List SourceAndCode) (t : DebugTables) : Type 0 where
-  pub unit : t.unit ≡ unit_of meta text_len compiled
+  pub entries : IsTreeOf meta text_len with_frame compiled t.entries
   pub rows : t.rows ≡ table_of meta compiled
   pub present : is_some t.frames ≡ with_frame
   pub frames : IfSome t.frames (AllZip Describes (map (λ c. c.code.now) compiled))
+  pub ranges : AreRanges t.ranges []
   pub writable : AreWritable t
+
+-- the section of this tree would have 2^31 bytes or more
+pub record AreEntriesLarge (meta : Maps) (text_len : ℕ) (with_frame : Bool) (compiled : List SourceAndCode) : Type 0 where
+  pub tree : List TreeItem
+  pub is : IsTreeOf meta text_len with_frame compiled tree
+  pub large : SECTION_LIMIT ≤ length (entry_bytes tree)
 
 -- a section of these would have 2^31 bytes or more
 abbrev pub AreTablesLarge : Maps → (text_len : ℕ) → (with_frame : Bool) → List SourceAndCode → Type 0
 AreTablesLarge meta text_len with_frame compiled =
-    (SECTION_LIMIT ≤ length (entries_spelling (unit_of meta text_len compiled))) ⊎ ((SECTION_LIMIT ≤ length (rows_spelling (table_of meta compiled)))
-    ⊎ ((with_frame ≡ true) × IsLargeFrameSection LOST (map (λ c. c.code.now) compiled)))
+    AreEntriesLarge meta text_len with_frame compiled ⊎ ((SECTION_LIMIT ≤ length (rows_spelling (table_of meta compiled)))
+    ⊎ (((with_frame ≡ true) × IsLargeFrameSection LOST (map (λ c. c.code.now) compiled)) ⊎ (SECTION_LIMIT ≤ length (ranges_spelling []))))
 
 -- ---- of a program
 

@@ -1,34 +1,40 @@
 //! What the debug sections of a compiled program have.
 
-ghost use Rattle.std.specs.Prelude.{◌≡◌, ◌-◌, ◌<◌, ◌≤◌, ◌^◌, length, map, true, is_some, All, IfOk, IfSome, IsErrOf};
+ghost use Rattle.std.specs.Prelude.{◌≡◌, ◌-◌, ◌<◌, ◌≤◌, ◌^◌, [], length, map, true, false, is_some, All, IfOk, IfSome, IsErrOf};
 ghost use Rattle.std.specs.List.{AllZip};
 ghost use Rattle.dwarf_base.specs.Limits.{SECTION_LIMIT};
 ghost use Rattle.dwarf_frame.specs.Spelling.{spelling as frame_spelling};
 ghost use Rattle.dwarf_frame.specs.Table.{IsDescription};
-ghost use Rattle.dwarf_info.specs.Entries.{spelling as entries_spelling, HasTypes};
 ghost use Rattle.dwarf_line.specs.Spelling.{spelling as rows_spelling};
 ghost use Rattle.dwarf_line.specs.Table.{HasNames, IsSequence};
 ghost use Rattle.dwarf_sections.specs.dwarf_line_table.Program.{MAX_FUNCTIONS, table_of};
 ghost use Rattle.dwarf_sections.specs.Frame.{IsLargeFrameSection, IsOfFunction};
 ghost use Rattle.dwarf_sections.specs.dwarf_unit.Unit.{program_variables, unit_of};
+ghost use Rattle.dwarf_rnglists.specs.Grammar.{IsSection as AreRanges};
+ghost use Rattle.dwarf_rnglists.specs.Spelling.{spelling as ranges_spelling};
 ghost use Rattle.frame_table.specs.Table.{Describes};
-ghost use Rattle.linkable_command.specs.Linkable.{LOST};
-ghost use Rattle.linkable_program.specs.Program.{AreTables, AreTablesLarge};
+ghost use Rattle.linkable_command.specs.entry_placement.dwarf_entry.Entries.{RefersWithin};
+ghost use Rattle.linkable_command.specs.Linkable.{entry_bytes, LOST};
+ghost use Rattle.linkable_program.specs.Program.{AreEntriesLarge, AreTables, AreTablesLarge, IsTreeOf};
 
 use dwarf_frame::size::frame_size;
-use dwarf_info::size::info_size;
-use dwarf_info::unit::Unit;
 use dwarf_line::size::line_size;
 use dwarf_line::table::LineTable;
+use dwarf_rnglists::range::AddressRangeLists;
+use dwarf_rnglists::section::{ranges_size, write_ranges};
 use dwarf_sections::dwarf_line_table_crate::line_table::line_table;
 use dwarf_sections::dwarf_line_table_crate::source_and_code::SourceAndCode;
 use dwarf_sections::dwarf_unit_crate::unit::make_unit;
 use dwarf_sections::sections::descriptions;
-use linkable_command::sections::LOST_REGISTERS;
+use elf_object::object::Bytes;
+use linkable_command::entry_placement_crate::dwarf_entry_crate::tree::Tree;
+use linkable_command::sections::{LOST_REGISTERS, entry_size};
 use linkable_command::tables::{DebugTables, FrameDescriptions};
 use object_command::object::ObjectError;
 use read_metadata::metadata::Metadata;
-use std::alloc::Global;
+use std::alloc::{AllocError, Global};
+use typed_unit::plain::{plain_types, plain_unit};
+use typed_unit::tree::tree_of;
 
 /// The contents of the debug sections of functions, with `text_len` bytes of code, with `.debug_frame` if it is asked
 /// for. The error `TooLarge` is that a section would have 2^31 bytes or more.
@@ -46,32 +52,54 @@ pub fn tables(
     ensures named { IsErrOf result ObjectError.SymbolName → ⊥ }
     ensures large { IsErrOf result ObjectError.TooLarge → AreTablesLarge meta.now text_len with_frame functions.now }
 {
-    let unit = entries(alloc, functions, meta, text_len)?;
+    let entries = entries(alloc, functions, meta, text_len, with_frame)?;
     let rows = rows(alloc, functions, meta)?;
     let frames = frames(alloc, functions, with_frame)?;
-    Ok(DebugTables { unit, rows, frames })
+    let ranges = ranges(alloc)?;
+    Ok(DebugTables {
+        entries,
+        rows,
+        frames,
+        ranges,
+    })
 }
 
-/// The entries of functions, with `text_len` bytes of code.
+/// The tree of entries of functions, with `text_len` bytes of code.
 fn entries(
     alloc: Global,
     functions: &[SourceAndCode],
     meta: &Metadata,
     text_len: u32,
-) -> Result<Unit, ObjectError>
+    with_frame: bool,
+) -> Result<Tree, ObjectError>
     requires { length (program_variables functions.now) < 2 ^ 32 - 2 }
-    ensures unit { IfOk result (λ unit. unit ≡ unit_of meta.now text_len functions.now) }
-    ensures types { IfOk result (λ unit. All (HasTypes (length unit.types)) unit.functions) }
-    ensures small { IfOk result (λ unit. length (entries_spelling unit) < SECTION_LIMIT) }
+    ensures tree { IfOk result (IsTreeOf meta.now text_len with_frame functions.now) }
+    ensures references { IfOk result RefersWithin }
+    ensures small { IfOk result (λ tree. length (entry_bytes tree) < SECTION_LIMIT) }
     ensures named { IsErrOf result ObjectError.SymbolName → ⊥ }
     ensures large { IsErrOf result ObjectError.TooLarge →
-        SECTION_LIMIT ≤ length (entries_spelling (unit_of meta.now text_len functions.now)) }
+        AreEntriesLarge meta.now text_len with_frame functions.now }
 {
     let unit = make_unit(alloc, functions, meta, text_len)?;
-    if info_size(&unit).is_none() {
+    let types = plain_types(alloc, &unit)?;
+    let content = plain_unit(alloc, with_frame, &unit)?;
+    let tree = tree_of(alloc, types, &content)?;
+    let large = is_large(alloc, &tree)?;
+    if large {
         return Err(ObjectError::TooLarge);
     }
-    Ok(unit)
+    Ok(tree)
+}
+
+/// Whether the section of a tree would have 2^31 bytes or more. The error is out of memory.
+fn is_large(alloc: Global, tree: &Tree) -> Result<bool, AllocError>
+    ensures large { IfOk result (λ large. large ≡ true → SECTION_LIMIT ≤ length (entry_bytes tree.now)) }
+    ensures small { IfOk result (λ large. large ≡ false → length (entry_bytes tree.now) < SECTION_LIMIT) }
+{
+    match entry_size(alloc, tree.as_slice())? {
+        None => Ok(true),
+        Some(_) => Ok(false),
+    }
 }
 
 /// The rows of functions.
@@ -133,4 +161,17 @@ fn described(alloc: Global, functions: &[SourceAndCode]) -> Result<FrameDescript
         return Err(ObjectError::TooLarge);
     }
     Ok(table)
+}
+
+/// The section of range lists, of which there are none.
+fn ranges(alloc: Global) -> Result<Bytes, ObjectError>
+    ensures section { IfOk result (λ bytes. AreRanges bytes []) }
+    ensures named { IsErrOf result ObjectError.SymbolName → ⊥ }
+    ensures large { IsErrOf result ObjectError.TooLarge → SECTION_LIMIT ≤ length (ranges_spelling []) }
+{
+    let lists = AddressRangeLists::new(alloc);
+    if ranges_size(&lists).is_none() {
+        return Err(ObjectError::TooLarge);
+    }
+    Ok(write_ranges(alloc, &lists)?)
 }

@@ -6,6 +6,8 @@
 #[cfg(test)]
 mod changed;
 #[cfg(test)]
+mod entry_tree;
+#[cfg(test)]
 mod frame_rows;
 #[cfg(test)]
 mod frames;
@@ -25,6 +27,8 @@ mod location_lists;
 mod no_functions;
 #[cfg(test)]
 mod objects;
+#[cfg(test)]
+mod prologue_sections;
 #[cfg(test)]
 mod range_lists;
 #[cfg(test)]

@@ -1,7 +1,7 @@
 //! The object of two functions that a linker places, section by section: two linkers and eu-elflint take an object with
 //! these sections, and llvm-dwarfdump finds no fault in it, nor in what they make of it.
 
-use crate::linkable_tables::{are_frames, are_rows, is_unit, tables_of};
+use crate::linkable_tables::{RANGES, are_entries, are_frames, are_rows, tables_of};
 use base_list::List;
 use elf_object::object::{Object, Section};
 use elf_object::read::read_object;
@@ -49,17 +49,17 @@ static CODE: [u8; 48] = [
     0, 0x67, 0x80, 0, 0,
 ];
 
-static DECLARATIONS: [u8; 54] = [
-    1, 0x11, 1, 0x13, 5, 3, 8, 0x1b, 8, 0x10, 0x17, 0x11, 1, 0x12, 6, 0x8c, 1, 0x17, 0, 0, 2, 0x2e,
-    1, 3, 8, 0x11, 1, 0x12, 6, 0, 0, 3, 5, 0, 3, 8, 0x49, 0x13, 2, 0x22, 0, 0, 7, 0x24, 0, 3, 8,
-    0xb, 0xb, 0x3e, 0xb, 0, 0, 0,
+static DECLARATIONS: [u8; 56] = [
+    1, 0x11, 1, 0x13, 5, 3, 8, 0x1b, 8, 0x10, 0x17, 0x11, 1, 0x12, 6, 0x8c, 1, 0x17, 0x74, 0x17, 0,
+    0, 2, 0x24, 0, 3, 8, 0xb, 0xb, 0x3e, 0xb, 0, 0, 3, 0x2e, 1, 3, 8, 0x11, 1, 0x12, 6, 0, 0, 4, 5,
+    0, 3, 8, 0x49, 0x13, 2, 0x22, 0, 0, 0,
 ];
 
-static ENTRIES: [u8; 91] = [
-    0x57, 0, 0, 0, 5, 0, 1, 8, 0, 0, 0, 0, 1, 0xc, 0, 0x74, 0x2e, 0x63, 0, 0x2f, 0x64, 0, 0, 0, 0,
-    0, 0, 0, 0, 0, 0, 0, 0, 0, 0x30, 0, 0, 0, 0, 0, 0, 0, 7, 0x6c, 0x6f, 0x6e, 0x67, 0, 8, 5, 2,
-    0x66, 0, 0, 0, 0, 0, 0, 0, 0, 0, 0x2c, 0, 0, 0, 3, 0x78, 0, 0x2a, 0, 0, 0, 0, 0, 2, 0x68, 0, 0,
-    0, 0, 0, 0, 0, 0, 0, 4, 0, 0, 0, 0, 0,
+static ENTRIES: [u8; 95] = [
+    0x5b, 0, 0, 0, 5, 0, 1, 8, 0, 0, 0, 0, 1, 0xc, 0, 0x74, 0x2e, 0x63, 0, 0x2f, 0x64, 0, 0, 0, 0,
+    0, 0, 0, 0, 0, 0, 0, 0, 0, 0x30, 0, 0, 0, 0, 0, 0, 0, 0, 0, 0, 0, 2, 0x6c, 0x6f, 0x6e, 0x67, 0,
+    8, 5, 3, 0x66, 0, 0, 0, 0, 0, 0, 0, 0, 0, 0x2c, 0, 0, 0, 4, 0x78, 0, 0x2e, 0, 0, 0, 0, 0, 3,
+    0x68, 0, 0, 0, 0, 0, 0, 0, 0, 0, 4, 0, 0, 0, 0, 0,
 ];
 
 static ROWS: [u8; 74] = [
@@ -81,15 +81,16 @@ static FRAMES: [u8; 112] = [
 ];
 
 /// The relocations of the code: their offsets, symbols, types and addends.
-const OF_CODE: &[(u64, u32, u32, u64)] = &[(12, 9, 26, 8), (16, 10, 19, 0), (24, 9, 27, 8)];
+const OF_CODE: &[(u64, u32, u32, u64)] = &[(12, 10, 26, 8), (16, 11, 19, 0), (24, 10, 27, 8)];
 
 const OF_ENTRIES: &[(u64, u32, u32, u64)] = &[
     (8, 2, 1, 0),
     (22, 4, 1, 0),
     (26, 1, 2, 0),
     (38, 5, 1, 12),
-    (53, 1, 2, 0),
-    (77, 1, 2, 44),
+    (42, 7, 1, 12),
+    (57, 1, 2, 0),
+    (81, 1, 2, 44),
 ];
 
 const OF_ROWS: &[(u64, u32, u32, u64)] = &[(56, 1, 2, 0)];
@@ -109,6 +110,7 @@ const SYMBOLS: &[(&[u8], u16, u64, u64)] = &[
     (b"", 4, 0, 0),
     (b"", 5, 0, 0),
     (b"", 6, 0, 0),
+    (b"", 7, 0, 0),
     (b"f", 1, 0, 44),
     (b"h", 1, 44, 4),
     (b"table", 0, 0, 0),
@@ -186,7 +188,8 @@ fn output_of(alloc: Global) -> Result<Output, Fail> {
 
 /// The object of an output and of tables, for doubles in registers.
 fn object_of(alloc: Global, output: Output, t: &DebugTables) -> Result<Object, Fail> {
-    if !is_unit(&t.unit) || !are_rows(&t.rows) || !are_frames(&t.frames) {
+    let are = are_entries(alloc, t.entries.as_slice())?;
+    if !are || !are_rows(&t.rows) || !are_frames(&t.frames) {
         return Err(Fail::from("tables that can't be written"));
     }
     let lists = List::from_slice(alloc, &LISTS)?;
@@ -228,7 +231,7 @@ fn is_relocated(
     index: u32,
     wanted: &[(u64, u32, u32, u64)],
 ) -> bool {
-    if section.name.as_slice() != name || section.link != 12 || section.info != index {
+    if section.name.as_slice() != name || section.link != 13 || section.info != index {
         return false;
     }
     match read_relocations(alloc, section.bytes.as_slice()) {
@@ -248,7 +251,7 @@ fn is_symbol(symbol: &Symbol, wanted: &(&[u8], u16, u64, u64)) -> bool {
 
 /// Whether the symbols of a table are the wanted ones, and the first that isn't local follows those of the sections.
 fn is_table(alloc: Global, table: &Section, names: &Section) -> bool {
-    if table.link != 13 || table.info != 7 {
+    if table.link != 14 || table.info != 8 {
         return false;
     }
     match read_symbols(alloc, table.bytes.as_slice(), names.bytes.as_slice()) {
@@ -282,13 +285,23 @@ fn are_behind(alloc: Global, sections: &[Section]) -> bool {
 /// Whether sections are those of the object.
 fn are_sections(alloc: Global, sections: &[Section]) -> bool {
     match sections {
-        [code, declarations, entries, rows, lists, frames, rest @ ..] => {
+        [
+            code,
+            declarations,
+            entries,
+            rows,
+            lists,
+            frames,
+            ranges,
+            rest @ ..,
+        ] => {
             is_content(code, b".text", &CODE)
                 && is_content(declarations, b".debug_abbrev", &DECLARATIONS)
                 && is_content(entries, b".debug_info", &ENTRIES)
                 && is_content(rows, b".debug_line", &ROWS)
                 && is_content(lists, b".debug_loclists", &LISTS)
                 && is_content(frames, b".debug_frame", &FRAMES)
+                && is_content(ranges, b".debug_rnglists", &RANGES)
                 && are_behind(alloc, rest)
         }
         _ => false,

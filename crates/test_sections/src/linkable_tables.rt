@@ -1,13 +1,14 @@
 //! The tables of two functions, `f` with a frame and `h` behind it, and whether tables can be written.
 
-ghost use Rattle.std.specs.Prelude.{◌<◌, ◌^◌, length, All, IfSome, IsTrue};
+ghost use Rattle.std.specs.Prelude.{◌<◌, ◌^◌, length, All, IfOk, IfSome, IsTrue};
 ghost use Rattle.dwarf_frame.specs.Spelling.{spelling as frame_spelling};
 ghost use Rattle.dwarf_frame.specs.Table.{IsDescription};
-ghost use Rattle.dwarf_info.specs.Entries.{spelling as entries_spelling, HasType, HasTypes};
+ghost use Rattle.linkable_command.specs.entry_placement.dwarf_entry.Entries.{RefersWithin};
 ghost use Rattle.dwarf_line.specs.Spelling.{spelling as rows_spelling};
 ghost use Rattle.dwarf_line.specs.Table.{HasNames, IsSequence};
-ghost use Rattle.linkable_command.specs.Linkable.{LOST};
+ghost use Rattle.linkable_command.specs.Linkable.{entry_bytes, LOST};
 
+use crate::entry_tree::{items_refer, tree_of};
 use crate::frame_rows::{are_descriptions, are_undefined};
 use crate::frames::function;
 use crate::line_tables::{dirs_of, files_of};
@@ -15,62 +16,15 @@ use crate::table::{are_named, are_names, are_sequences};
 use base_list::List;
 use dwarf_frame::size::frame_size;
 use dwarf_frame::table::FrameDescription;
-use dwarf_info::size::info_size;
-use dwarf_info::unit::{BaseEntry, FunctionEntry, Unit, VariableEntry};
 use dwarf_line::size::line_size;
 use dwarf_line::table::{LineTable, Row, Sequence};
-use linkable_command::sections::LOST_REGISTERS;
+use linkable_command::entry_placement_crate::dwarf_entry_crate::tree::TreeItem;
+use linkable_command::sections::{LOST_REGISTERS, entry_size};
 use linkable_command::tables::{DebugTables, FrameDescriptions};
 use std::alloc::{AllocError, Global};
 
-/// The functions: names, addresses, sizes, and parameters.
-const FUNCTIONS: &[(&[u8], u64, u32, &[&[u8]])] = &[(b"f", 0, 44, &[b"x"]), (b"h", 44, 4, &[])];
-
-/// A function. Each of its parameters has the first type and the first list.
-fn function_entry(
-    alloc: Global,
-    name: &[u8],
-    lo: u64,
-    len: u32,
-    parameters: &[&[u8]],
-) -> Result<FunctionEntry, AllocError> {
-    let mut variables = List::new(alloc);
-    for name in parameters {
-        variables.push(VariableEntry {
-            name: List::from_slice(alloc, name)?,
-            argument: true,
-            base: Some(0),
-            list: 0,
-        })?;
-    }
-    Ok(FunctionEntry {
-        name: List::from_slice(alloc, name)?,
-        lo,
-        len,
-        variables,
-    })
-}
-
-/// The unit of the functions, with one type.
-fn unit_of(alloc: Global) -> Result<Unit, AllocError> {
-    let mut types = List::new(alloc);
-    types.push(BaseEntry {
-        name: List::from_slice(alloc, b"long")?,
-        size: 8,
-        encoding: 5,
-    })?;
-    let mut functions = List::new(alloc);
-    for (name, lo, len, parameters) in FUNCTIONS {
-        functions.push(function_entry(alloc, name, *lo, *len, parameters)?)?;
-    }
-    Ok(Unit {
-        name: List::from_slice(alloc, b"t.c")?,
-        dir: List::from_slice(alloc, b"/d")?,
-        text_len: 48,
-        types,
-        functions,
-    })
-}
+/// The bytes of `.debug_rnglists`, without a list.
+pub(crate) static RANGES: [u8; 12] = [8, 0, 0, 0, 5, 0, 8, 0, 0, 0, 0, 0];
 
 /// The rows: one for all code.
 fn rows_of(alloc: Global) -> Result<LineTable, AllocError> {
@@ -105,55 +59,22 @@ fn frames_of(alloc: Global) -> Result<FrameDescriptions, AllocError> {
 /// The tables of the functions.
 pub(crate) fn tables_of(alloc: Global) -> Result<DebugTables, AllocError> {
     Ok(DebugTables {
-        unit: unit_of(alloc)?,
+        entries: tree_of(alloc)?,
         rows: rows_of(alloc)?,
         frames: Some(frames_of(alloc)?),
+        ranges: List::from_slice(alloc, &RANGES)?,
     })
 }
 
-/// Whether the type of a variable is one of so many.
-fn has_type(count: usize, variable: &VariableEntry) -> bool
-    ensures { IsTrue result → HasType count variable.now }
+/// Whether a tree of entries can be written.
+pub(crate) fn are_entries(alloc: Global, entries: &[TreeItem]) -> Result<bool, AllocError>
+    ensures references { IfOk result (λ are. IsTrue are → RefersWithin entries.now) }
+    ensures size { IfOk result (λ are. IsTrue are → length (entry_bytes entries.now) < 2 ^ 31) }
 {
-    match variable.base {
-        Some(base) => (base as usize) < count,
-        None => true,
+    if entry_size(alloc, entries)?.is_none() {
+        return Ok(false);
     }
-}
-
-/// Whether the types of variables are.
-fn has_types(count: usize, variables: &[VariableEntry]) -> bool
-    ensures { IsTrue result → All (HasType count) variables.now }
-{
-    for variable in variables {
-        if !has_type(count, variable) {
-            return false;
-        }
-    }
-    true
-}
-
-/// Whether those of functions are.
-fn have_types(count: usize, functions: &[FunctionEntry]) -> bool
-    ensures { IsTrue result → All (HasTypes count) functions.now }
-{
-    for function in functions {
-        if !has_types(count, function.variables.as_slice()) {
-            return false;
-        }
-    }
-    true
-}
-
-/// Whether the entries of a unit can be written.
-pub(crate) fn is_unit(unit: &Unit) -> bool
-    ensures types { IsTrue result → All (HasTypes (length unit.now.types)) unit.now.functions }
-    ensures size { IsTrue result → length (entries_spelling unit.now) < 2 ^ 31 }
-{
-    if info_size(unit).is_none() {
-        return false;
-    }
-    have_types(unit.types.len(), unit.functions.as_slice())
+    Ok(items_refer(entries.len(), entries))
 }
 
 /// Whether rows can be written.

@@ -10,6 +10,7 @@ use Rattle.cli.specs.declared.command.Command.TheVariants.{Report, Object, Run, 
 use Rattle.cli.specs.Command.{IsCommand}
 use Rattle.cli.proofs.CommandWords.{one_command}
 use Rattle.read_program.specs.declared.program.Program.{Program}
+use Rattle.kept_program.proofs.Holding.{suspended_programs_hold}
 use Rattle.linkable_placement.proofs.Placed.{object_placed}
 use Rattle.selftest_command.specs.run_command.Program.{names_of, sources_of}
 use Rattle.tool_driver.specs.Run.{Finishes, AnswersRead, AnswersInput, WroteReport, WroteObject, WroteRun, WroteTest, KeepsPromises, IsKeptAsked}
@@ -36,6 +37,8 @@ kept_asked (Some form) plan p bytes file =
       promises = promises;
       is = is;
       placed = object_placed (names_of p.meta) (sources_of p.functions) o is.loclists is.tables promises.laid_out is.are.are.writable;
+      suspended =
+          suspended_programs_hold plan.reserve plan.passes p file.compilation file.by_plan.compiled is.lists.lists is.lists.kept;
     }
 
 module _ (words : List (List ℕ)) (input output : Change) (finished : Finishes words input output) where

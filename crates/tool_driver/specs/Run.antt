@@ -19,6 +19,7 @@ use Rattle.readback_strip.specs.readback_functions.Bytes.{AreBytes}
 use Rattle.readback_strip.specs.Text.{stripped_program}
 use Rattle.readback_strip.specs.strip_command.StripText.{stripped_text}
 use Rattle.tool_driver.specs.Limits.{INPUT_LIMIT}
+use Rattle.kept_program.specs.Suspended.{AllHold}
 use Rattle.linkable_placement.specs.Placement.{Placement, Fits, IsPlaced}
 use Rattle.linkable_program.specs.Program.{IsLinkableOf}
 use Rattle.tool_driver.specs.Compiled.{plan_steps, flags_of, IsPlainOutputOf, IsCompiledBy}
@@ -188,13 +189,15 @@ pub record IsKeptObject (steps : ExposedSteps) (p : Program) (bytes : List ℕ) 
   pub object : IsObjectOf made bytes
 
 -- The bytes are the object that a linker places of the program, compiled by a plan to an output that keeps the promises. Wherever a linker places it, its code
--- runs in the environment of the placement, and its debug sections are those of the same entries, rows and functions, moved there.
+-- runs in the environment of the placement, and its debug sections are those of the same entries, rows and functions, moved there. Its location lists are true
+-- in suspended frames too, whatever the callee did.
 pub record IsKeptLinkable (form : LinkableForm) (plan : PassPipeline) (p : Program) (bytes : List ℕ) : Type 0 where
   pub compilation : Compilation
   pub by_plan : IsCompiledBy plan p compilation
   pub promises : KeepsPromises (plan_steps plan) p compilation.output
   pub is : IsLinkableOf p compilation form.frame (flags_of form) bytes
   pub placed : (place : Placement) → Fits place compilation.output is.loclists is.tables → IsPlaced place compilation.output is.loclists is.tables
+  pub suspended : AllHold compilation.output (sources_of p.functions) compilation.functions compilation.output.functions is.lists.lists
 
 abbrev pub IsKeptAsked : Option LinkableForm → PassPipeline → Program → (bytes : List ℕ) → Type 0
 IsKeptAsked None plan p bytes = IsKeptObject (plan_steps plan) p bytes

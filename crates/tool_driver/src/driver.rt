@@ -140,7 +140,8 @@ pub fn mirdwarf<S: Source, K: Sink, E: Sink>(
     // sections, a symbol for each function and each other function that is called, and a relocation at each call. With
     // `--linkable` it is one that a linker places, with location lists that are true in every frame: wherever it does,
     // the code runs in the environment of the placement, and the debug sections are those of the same entries, rows and
-    // functions, moved there.
+    // functions, moved there; and where a function is suspended, the lists give places that hold the source's values,
+    // whatever the callee did.
     ensures object { (asked : ObjectPlan) → result ≡ Status.Done →
         IsCommand (map string_bytes words.now) (Command.Object asked) →
         WroteObject asked (change S.left S.faults input.old input.new)

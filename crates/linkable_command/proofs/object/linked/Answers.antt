@@ -18,16 +18,16 @@ section_symbols-requires c =
     omega (
       arith,
       ap (λ (ss : List LinkableSection). length ss) made,
-      few c.args.relocations c.args.output.text c.args.output.abbreviations c.args.lists c.args.t.now,
+      few c.args.relocations c.args.output.text c.args.lists c.args.t.now,
     )
 
 pub file-requires-clause-few : goal.file-requires-clause-few
 file-requires-clause-few c =
-    subst AreFew (sym c.in_ok-sections.ensures) (few c.args.relocations c.args.output.text c.args.output.abbreviations c.args.lists c.args.t.now)
+    subst AreFew (sym c.in_ok-sections.ensures) (few c.args.relocations c.args.output.text c.args.lists c.args.t.now)
 
 pub file-requires-clause-plain : goal.file-requires-clause-plain
 file-requires-clause-plain c =
-    subst (All IsPlain) (sym c.in_ok-sections.ensures) (plain c.args.relocations c.args.output.text c.args.output.abbreviations c.args.lists c.args.t.now)
+    subst (All IsPlain) (sym c.in_ok-sections.ensures) (plain c.args.relocations c.args.output.text c.args.lists c.args.t.now)
 
 pub file-requires-clause-locals : goal.file-requires-clause-locals
 file-requires-clause-locals c =
@@ -50,7 +50,7 @@ returns-clause-object c =
     let o = c.args.output in
     let sections = c.in_ok-sections.sections in
     let first : sections ≡ sections_of o c.args.lists c.args.t.now =
-    c.in_ok-sections.ensures ∙ ap (λ (rs : List Relocation). sections_by rs o.text o.abbreviations c.args.lists c.args.t.now) c.requires.relocations in
+    c.in_ok-sections.ensures ∙ ap (λ (rs : List Relocation). sections_by rs o.text c.args.lists c.args.t.now) c.requires.relocations in
     let second : c.as_slice-2.result.now ≡ symbols_of o c.args.lists c.args.t.now =
     c.as_slice-2.ensures ∙ c.in_ok-append.ensures
     ∙ (λ i. (c.in_ok-symbols.ensures ∙ ap (section_symbols 1) (c.as_slice.ensures ∙ first)) i ++ c.requires.symbols i) in
@@ -61,7 +61,7 @@ returns-clause-too_large c = λ is.
     let o = c.args.output in
     let sections = c.in_ok-sections.sections in
     let first : sections ≡ sections_of o c.args.lists c.args.t.now =
-    c.in_ok-sections.ensures ∙ ap (λ (rs : List Relocation). sections_by rs o.text o.abbreviations c.args.lists c.args.t.now) c.requires.relocations in
+    c.in_ok-sections.ensures ∙ ap (λ (rs : List Relocation). sections_by rs o.text c.args.lists c.args.t.now) c.requires.relocations in
     let second : c.as_slice-2.result.now ≡ symbols_of o c.args.lists c.args.t.now =
     c.as_slice-2.ensures ∙ c.in_ok-append.ensures
     ∙ (λ i. (c.in_ok-symbols.ensures ∙ ap (section_symbols 1) (c.as_slice.ensures ∙ first)) i ++ c.requires.symbols i) in
