@@ -309,9 +309,8 @@ for CRATE, (AT, DEPS) in ORDER.items():
             tell(TOP / "crates.txt", AT, f"{DEP} doesn't stand above its user {CRATE}")
 check_clauses()
 for CRATE in ORDER:
-    LISTED = [(side, name, to) for side in ("specs", "proofs") for name, to in lists_of(CRATE, side).items() if isinstance(to, tuple)]
-    WHOLES = [(side, name) for side, name, to in LISTED if "." not in home_of(*to)[1]]
-    for SIDE, NAME in WHOLES + [("src", name) for name in handed_on(CRATE) if name.endswith("_crate")]:
+    HANDED = [(side, name) for side in ("specs", "proofs") for name, to in lists_of(CRATE, side).items() if isinstance(to, tuple)]
+    for SIDE, NAME in HANDED + [("src", name) for name in handed_on(CRATE) if name.endswith("_crate")]:
         if (CRATE, SIDE, NAME) not in READ:
             tell(TOP / "crates" / CRATE / SIDE, 1, f"hands on {NAME}, and nobody names it so")
 WAYS = sum(cost.ways({crate: [dep for dep in deps if dep in ORDER] for crate, (_, deps) in ORDER.items()})[0].values())
