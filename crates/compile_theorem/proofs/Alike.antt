@@ -1,7 +1,7 @@
 -- What a function's lines show wants the same places as the function: an address, a load or a store of a stack object is one of some object there too,
 -- and gives its register a token of its own. So both have the same paths, with the same tokens.
 use Rattle.std.proofs.Common.{◌≡◌, ℕ, zero, suc, ◌+◌, ◌-◌, ◌≤◌, ℤ, pos, List, [], ◌∷◌, ◌++◌, drop, map, Option, Some, None, Bool, true, false, cond, nat_eq}
-use Rattle.std.proofs.Common.{nat_le, refl, sym, ap, ◌∙◌, subst, arith}
+use Rattle.std.proofs.Common.{nat_le, nat_lt, negsuc, ◌+ℤ◌, ◌-ℤ◌, refl, sym, ap, ◌∙◌, subst, arith}
 use Rattle.std.specs.Prelude.{All, slice_get}
 use Rattle.std.proofs.lemmas.Bool.{le-leb}
 use Rattle.std.proofs.lemmas.List.Elements.{All-head, All-tail}
@@ -35,8 +35,9 @@ use Rattle.sem_mir.specs.PreferredLocation.{SitsIn, IsPreferredLocation, NoneIsP
 use Rattle.sem_mir.specs.ValueId.{numbered_tokens, given_token}
 use Rattle.sem_mir.specs.State.{updated}
 use Rattle.sem_mir.specs.Step.{defined}
-use Rattle.listing_meaning.specs.Frame.{ShownObject, last_of, begins_by, has_byte, object_at, in_object, by_pointer, by_object}
-use Rattle.listing_meaning.specs.Settled.{object_placed, frame_of, settled_sum, settled_operands, settled_kind, settled_item, settled}
+use Rattle.listing_meaning.specs.Frame.{ShownObject, last_of, begins_by, has_byte, object_at, in_object, by_pointer, by_object, first_object, or_object}
+use Rattle.listing_meaning.specs.Frame.{object_near, addressed}
+use Rattle.listing_meaning.specs.Settled.{object_placed, frame_of, settled_sum, settled_address, settled_operands, settled_kind, settled_item, settled}
 
 -- ---- the object that is found
 
@@ -74,6 +75,14 @@ some_found os o k n is low =
     let one = some_begins None os o k n is low in
     subst (λ (x : Option ShownObject). Found (last_of (has_byte n) x (map object_placed os))) (sym one.is)
     (stays_found (has_byte n) one.object (map object_placed os))
+
+some_first : (os : List Object) (n : ℕ) (o : Object) → object_of os n ≡ Some o → (p : ShownObject) × (first_object (map object_placed os) ≡ Some p)
+some_first [] n o is = absurd cc
+some_first (x ∷ os) n o is = (object_placed x, refl)
+
+some_of : (r first : Option ShownObject) (p : ShownObject) → first ≡ Some p → (o : ShownObject) × (or_object r first ≡ Some o)
+some_of None first p is = (p, is)
+some_of (Some o) first p is = (o, refl)
 
 -- ---- kinds
 
@@ -166,35 +175,44 @@ stores_alike op number rs n m i j rest = record {
 }
 
 module _ (f : FramedFunction) where
-  -- an address of an object leads to an object
-  addressed : (n i : ℕ) → HasBytes f.objects n (word (pos i)) → (o : ShownObject) × (by_object (frame_of f) (own_size f + offset_of f.objects n + i) ≡
+  -- an access of an object leads to an object
+  accessed_object : (n i : ℕ) → HasBytes f.objects n (word (pos i)) → (o : ShownObject) × (by_object (frame_of f) (own_size f + offset_of f.objects n + i) ≡
       OfObject o.id ∷ Imm (pos (own_size f + offset_of f.objects n + i - own_size f - o.offset)) ∷ [])
-  addressed n i (o, is, fits) =
+  accessed_object n i (o, is, fits) =
       let at : offset_of f.objects n ≡ o.offset = ap offset_or_zero is in
       let x = own_size f + offset_of f.objects n + i in
       let found = some_found f.objects o n (x - own_size f) is (omega (arith, at)) in
       (found.object, ap (λ (z : Option ShownObject). in_object z (x - own_size f) (by_pointer x)) found.is)
 
-  to_object : (o : ImmediateOp) (rd n i : ℕ) (rest : List Operand) (number : Option ℕ) → HasBytes f.objects n (word (pos i)) →
-      AreAlike (sum o rd n (pos i) rest number) (Code (record { op = Immediate o; operands = settled_sum f (Def rd ∷ OfObject n ∷ Imm (pos i) ∷ rest); volatile = false }) number)
+  -- an address leads to an object, wherever it lies
+  near : (n : ℕ) (z : ℤ) → HasBytes f.objects n 0 → (o : ShownObject) × (object_near (frame_of f) z ≡ Some o)
+  near n z (o, is, fits) = by_sign z (some_first f.objects n o is) where
+    by_place : (q : Bool) (k : ℕ) → (p : ShownObject) × (first_object (map object_placed f.objects) ≡ Some p) →
+        (r : ShownObject) × (cond q (first_object (map object_placed f.objects)) (or_object (object_at (map object_placed f.objects) k)
+        (first_object (map object_placed f.objects))) ≡ Some r)
+    by_place true k p = p
+    by_place false k p = some_of (object_at (map object_placed f.objects) k) (first_object (map object_placed f.objects)) p.0 p.1
+
+    by_sign : (y : ℤ) → (p : ShownObject) × (first_object (map object_placed f.objects) ≡ Some p) →
+        (r : ShownObject) × (object_near (frame_of f) y ≡ Some r)
+    by_sign (pos k) p = by_place (nat_lt k (own_size f)) (k - own_size f) p
+    by_sign (negsuc k) p = p
+
+  to_object : (o : ImmediateOp) (rd n : ℕ) (i : ℤ) (rest : List Operand) (number : Option ℕ) → HasBytes f.objects n 0 →
+      AreAlike (sum o rd n i rest number) (Code (record { op = Immediate o; operands = settled_address f (Def rd ∷ OfObject n ∷ Imm i ∷ rest); volatile = false }) number)
   to_object o rd n i rest number has =
-      let found = addressed n i has in
-      subst (λ (os : List Operand). AreAlike (sum o rd n (pos i) rest number) (Code (record {
+      let z : ℤ = pos (own_size f + offset_of f.objects n) +ℤ i in
+      let found = near n z has in
+      subst (λ (x : Option ShownObject). AreAlike (sum o rd n i rest number) (Code (record {
         op = Immediate o;
-        operands = Def rd ∷ os ++
-            rest;
+        operands = Def rd ∷ addressed (own_size f) x z ++ rest;
         volatile = false;
       }) number)) (sym found.1)
-      (sums_alike o number rd n found.0.id (pos i) (pos (own_size f + offset_of f.objects n + i - own_size f - found.0.offset)) rest)
+      (sums_alike o number rd n found.0.id i (z -ℤ pos (own_size f + found.0.offset)) rest)
 
-  sum_settled : (op : ImmediateOp) (rd n i : ℕ) (rest : List Operand) (number : Option ℕ) → HasForm (sum op rd n (pos i) rest number) →
-      ObjectsIn f.objects (sum op rd n (pos i) rest number) →
-      AreAlike (sum op rd n (pos i) rest number) (Code (record {
-        op = Immediate op;
-        operands = settled_sum f (Def rd ∷ OfObject n ∷ Imm
-            (pos i) ∷ rest);
-        volatile = false;
-      }) number)
+  sum_settled : (op : ImmediateOp) (rd n : ℕ) (i : ℤ) (rest : List Operand) (number : Option ℕ) → HasForm (sum op rd n i rest number) →
+      ObjectsIn f.objects (sum op rd n i rest number) →
+      AreAlike (sum op rd n i rest number) (Code (record { op = Immediate op; operands = settled_address f (Def rd ∷ OfObject n ∷ Imm i ∷ rest); volatile = false }) number)
   sum_settled Addi rd n i rest number form has = to_object Addi rd n i rest number has
   sum_settled Slti rd n i rest number form has = absurd cc
   sum_settled op rd n i rest number form has = absurd cc
@@ -202,16 +220,16 @@ module _ (f : FramedFunction) where
   settled_alike : (op : ImmediateOp) (operands : List Operand) (number : Option ℕ) →
       HasForm (Code (record { op = Immediate op; operands = operands; volatile = false }) number) →
       ObjectsIn f.objects (Code (record { op = Immediate op; operands = operands; volatile = false }) number) →
-      AreAlike (Code (record { op = Immediate op; operands = operands; volatile = false }) number) (Code (record { op = Immediate op; operands = settled_sum f operands; volatile = false }) number)
-  settled_alike op (Def rd ∷ OfObject n ∷ Imm (pos i) ∷ rest) number form in_object = sum_settled op rd n i rest number form in_object
-  settled_alike op (other ∷ OfObject n ∷ Imm (pos i) ∷ rest) number form in_object = absurd cc
+      AreAlike (Code (record { op = Immediate op; operands = operands; volatile = false }) number) (Code (record { op = Immediate op; operands = settled_address f operands; volatile = false }) number)
+  settled_alike op (Def rd ∷ OfObject n ∷ Imm i ∷ rest) number form in_object = sum_settled op rd n i rest number form in_object
+  settled_alike op (other ∷ OfObject n ∷ Imm i ∷ rest) number form in_object = absurd cc
   settled_alike op operands number form in_object = itself (Code (record { op = Immediate op; operands = operands; volatile = false }) number)
 
   load_settled : (op : LoadOp) (operands : List Operand) (number : Option ℕ) → HasForm (Code (record { op = Load op; operands = operands; volatile = false }) number) →
       ObjectsIn f.objects (Code (record { op = Load op; operands = operands; volatile = false }) number) →
       AreAlike (Code (record { op = Load op; operands = operands; volatile = false }) number) (Code (record { op = Load op; operands = settled_sum f operands; volatile = false }) number)
   load_settled op (Def rd ∷ OfObject n ∷ Imm (pos i) ∷ rest) number form (o, is, fits) =
-      let found = addressed n i (o, is, omega (arith, fits)) in
+      let found = accessed_object n i (o, is, omega (arith, fits)) in
       subst (λ (os : List Operand). AreAlike (load op rd n (pos i) rest number) (Code (record { op = Load op; operands = Def rd ∷ os ++ rest; volatile = false }) number))
       (sym found.1)
       (loads_alike op number rd n found.0.id (pos i) (pos (own_size f + offset_of f.objects n + i - own_size f - found.0.offset)) rest)
@@ -222,7 +240,7 @@ module _ (f : FramedFunction) where
       ObjectsIn f.objects (Code (record { op = Store op; operands = operands; volatile = false }) number) →
       AreAlike (Code (record { op = Store op; operands = operands; volatile = false }) number) (Code (record { op = Store op; operands = settled_sum f operands; volatile = false }) number)
   store_settled op (Use rs ∷ OfObject n ∷ Imm (pos i) ∷ rest) number form (o, is, fits) =
-      let found = addressed n i (o, is, omega (arith, fits)) in
+      let found = accessed_object n i (o, is, omega (arith, fits)) in
       subst (λ (os : List Operand). AreAlike (store op rs n (pos i) rest number) (Code (record { op = Store op; operands = Use rs ∷ os ++ rest; volatile = false }) number))
       (sym found.1)
       (stores_alike op number rs n found.0.id (pos i) (pos (own_size f + offset_of f.objects n + i - own_size f - found.0.offset)) rest)

@@ -1,6 +1,6 @@
 -- Each instruction of a function with its frame has its word.
 use Rattle.std.proofs.Common.{◌≡◌, ℕ, zero, suc, ◌+◌, ◌-◌, ◌%◌, ◌<◌, ◌≤◌, Bool, true, false, List, ◌∷◌, Option, Some, None, refl, sym, ap, subst, inl, inr, ◌∙◌}
-use Rattle.std.proofs.Common.{arith, ◌⊎◌, ◌&&◌}
+use Rattle.std.proofs.Common.{◌^◌, arith, ◌⊎◌, ◌&&◌}
 use Rattle.std.specs.Prelude.{◌⊎◌, ◌&&◌, ℤ, pos, negsuc, ◌-ℤ◌, ◌+ℤ◌, IsTrue, All, Contains, option_and_then, if◌then◌else◌}
 use Rattle.std.specs.List.{list_all}
 use Rattle.std.proofs.lemmas.Bool.Decides.{nat_tests}
@@ -31,6 +31,7 @@ use Rattle.rv64_word.specs.Operation.{encoding_of}
 use Rattle.rv64_word.specs.Lowering.{lowered, fields_of, in_range, machine_op, held_fields}
 use Rattle.rv64_word.proofs.Fitting.{is_fit}
 use Rattle.rv64_instr.specs.Row.{row_of, call_row, tail_row, gone_row}
+use Rattle.rv64_instr.specs.View.{access_of}
 use Rattle.rv64_instr.specs.LocationEffects.{object_named, has_site}
 use Rattle.mir_func.specs.declared.exit.Exit.{Exit}
 use Rattle.mir_func.specs.declared.exit.Exit.TheVariants.{Onward, Perhaps, Always, Final}
@@ -38,7 +39,7 @@ use Rattle.mir_func.specs.declared.object.Object.{Object}
 use Rattle.mir_func.specs.Exits.{row_exit}
 use Rattle.mir_func.specs.Objects.{offset_of}
 use Rattle.mir_func.specs.Sound.{SlotIn, ObjectIn, HasBytes}
-use Rattle.mir_func.specs.SoundFrame.{IsPhysical}
+use Rattle.mir_func.specs.SoundFrame.{IsPhysical, AccessReaches}
 use Rattle.rv64_instr.specs.Form.{is_within, has_12_bits, is_immediate, is_addi, is_implicit, fits_registers, fits_immediate, fits_upper, fits_branch}
 use Rattle.rv64_instr.specs.Form.{fits_load, fits_store, fits_copy, fits_jump, has_form, is_last_argument, is_call_register, is_held_tail_use}
 use Rattle.rv64_instr.specs.Form.{is_held_tail_register, fits_call, fits_held_call, fits_gone, fits_held_gone, fits_tail, fits_held_tail}
@@ -251,6 +252,21 @@ object_sum object (pos n) le h =
     twelve_up k t = grind (arith, nat_tests, ints)
 object_sum object (negsuc n) le h = let small = twelve n h in absurd (omega (arith, small))
 
+sum_down : (object n : ℕ) → object ≤ 2047 → n ≤ 2047 → IsTrue (has_12_bits (pos object +ℤ negsuc n))
+sum_down object n low small = grind (arith, nat_tests, ints)
+
+-- the address of an object, which lies low enough above x2 if it doesn't lie below the object
+address_sum : (object : ℕ) (i : ℤ) → object ≤ 2047 → (word i < 2 ^ 63 → object + word i ≤ 2032) → IsTrue (has_12_bits i) →
+    IsTrue (has_12_bits (pos object +ℤ i))
+address_sum object (pos n) low reaches h =
+    let small : n ≤ 2047 = twelve_up n h in
+    let sum = reaches (omega (arith, small)) in
+    sum_up object n (omega (arith, small, sum))
+  where
+    twelve_up : (k : ℕ) → IsTrue (has_12_bits (pos k)) → k ≤ 2047
+    twelve_up k t = grind (arith, nat_tests, ints)
+address_sum object (negsuc n) low reaches h = sum_down object n low (twelve n h)
+
 module _ (slots : List ℕ) (objects : List Object) (own : ℕ) (low : (n : ℕ) → Contains slots n → n ≤ 2047)
     (room : (n bytes : ℕ) → HasBytes objects n bytes → own + offset_of objects n + bytes ≤ 2047) where
   abbrev pub place : Option ℕ → ℕ
@@ -260,28 +276,30 @@ module _ (slots : List ℕ) (objects : List Object) (own : ℕ) (low : (n : ℕ)
   object_word : (op : ImmediateOp) (rd n : ℕ) (i : ℤ) (rest : List Operand) (offset : ℤ) →
       IsTrue (is_addi op && is_immediate op i && list_all is_implicit rest) → rd < 32 →
       ObjectIn objects (row_of (instruction (source.Immediate op) (Def rd ∷ OfObject n ∷ Imm i ∷ rest))) →
+      AccessReaches own objects (access_of (row_of (instruction (source.Immediate op) (Def rd ∷ OfObject n ∷ Imm i ∷ rest)))) →
       HasWord offset (place (object_named (row_of (instruction (source.Immediate op) (Def rd ∷ OfObject n ∷ Imm i ∷ rest))))) (instruction (source.Immediate
       op) (Def rd ∷ OfObject n ∷ Imm i ∷ rest))
-  object_word Addi rd n i rest offset form r inside =
+  object_word Addi rd n i rest offset form r inside reaches =
       let range : IsTrue (has_12_bits i) = left (has_12_bits i) (list_all is_implicit rest) form in
       with_word offset (own + offset_of objects n) (instruction (source.Immediate Addi) (Def rd ∷ OfObject n ∷ Imm i ∷ rest))
       (machine_op (Immediate Addi) rd 2 0 (pos (own + offset_of objects n) +ℤ i)) refl
-      (immediate_encodes Addi rd 2 (pos (own + offset_of objects n) +ℤ i) r (omega arith) (object_sum (own + offset_of objects n) i (room n (word i) inside)
-      range))
-  object_word op rd n i rest offset form r inside = absurd cc
+      (immediate_encodes Addi rd 2 (pos (own + offset_of objects n) +ℤ i) r (omega arith)
+      (address_sum (own + offset_of objects n) i (omega (arith, room n 0 inside)) reaches range))
+  object_word op rd n i rest offset form r inside reaches = absurd cc
 
   immediate_word : (op : ImmediateOp) (operands : List Operand) (offset : ℤ) → IsTrue (fits_immediate op operands) → Physical operands →
-      ObjectIn objects (row_of (instruction (source.Immediate op) operands)) →
+      ObjectIn objects (row_of (instruction (source.Immediate op) operands)) → AccessReaches own objects (access_of (row_of (instruction (source.Immediate
+      op) operands))) →
       HasWord offset (place (object_named (row_of (instruction (source.Immediate op) operands)))) (instruction (source.Immediate op) operands)
-  immediate_word op (Def rd ∷ Use a ∷ Imm i ∷ rest) offset form physical inside =
+  immediate_word op (Def rd ∷ Use a ∷ Imm i ∷ rest) offset form physical inside reaches =
       with_word offset _ (instruction (source.Immediate op) (Def rd ∷ Use a ∷ Imm i ∷ rest)) (machine_op (Immediate op) rd a 0 i) refl
       (immediate_encodes op rd a i (physical 0 Mask (omega arith)) (physical 1 Mask (omega arith)) (left _ _ form))
-  immediate_word op (Def rd ∷ OfObject n ∷ Imm i ∷ rest) offset form physical inside = object_word op rd n i rest offset form (physical 0 Mask (omega arith))
-      inside
-  immediate_word op (Def rd ∷ Use a ∷ Part Lower y ∷ rest) offset form physical inside =
+  immediate_word op (Def rd ∷ OfObject n ∷ Imm i ∷ rest) offset form physical inside reaches = object_word op rd n i rest offset form
+      (physical 0 Mask (omega arith)) inside reaches
+  immediate_word op (Def rd ∷ Use a ∷ Part Lower y ∷ rest) offset form physical inside reaches =
       with_word offset _ (instruction (source.Immediate op) (Def rd ∷ Use a ∷ Part Lower y ∷ rest)) (machine_op (Immediate Addi) rd a 0 (pos 0)) refl
       (immediate_encodes Addi rd a (pos 0) (physical 0 Mask (omega arith)) (physical 1 Mask (omega arith)) refl)
-  immediate_word op operands offset form physical inside = absurd cc
+  immediate_word op operands offset form physical inside reaches = absurd cc
 
   load_word : (op : LoadOp) (operands : List Operand) (offset : ℤ) → IsTrue (fits_load op operands) → Physical operands →
       SlotIn slots (row_of (instruction (source.Load op) operands)) → ObjectIn objects (row_of (instruction (source.Load op) operands)) →
@@ -365,21 +383,22 @@ module _ (slots : List ℕ) (objects : List Object) (own : ℕ) (low : (n : ℕ)
   -- every instruction that names no callee has its word
   pub code_word : (op : Op) (operands : List Operand) (offset : ℤ) → IsTrue (has_form op operands) → Physical operands →
       SlotIn slots (row_of (instruction op operands)) → ObjectIn objects (row_of (instruction op operands)) →
+      AccessReaches own objects (access_of (row_of (instruction op operands))) →
       OffsetFits (row_exit (row_of (instruction op operands))) offset → (has_site (row_of (instruction op operands)) ≡ true → ⊥) →
       HasWord offset (place (object_named (row_of (instruction op operands)))) (instruction op operands)
-  code_word (source.Registers op) operands offset form physical slot inside fit other = registers_word op operands offset _ form physical
-  code_word (source.Immediate op) operands offset form physical slot inside fit other = immediate_word op operands offset form physical inside
-  code_word source.Lui operands offset form physical slot inside fit other = upper_word operands offset _ form physical
-  code_word (source.Branch op) operands offset form physical slot inside fit other = branch_word op operands offset _ form physical fit
-  code_word (source.Load op) operands offset form physical slot inside fit other = load_word op operands offset form physical slot inside
-  code_word (source.Store op) operands offset form physical slot inside fit other = store_word op operands offset form physical slot inside
-  code_word source.Copy operands offset form physical slot inside fit other = copy_word operands offset _ form physical
-  code_word source.PseudoBr operands offset form physical slot inside fit other = jump_word operands offset _ form fit
-  code_word source.PseudoCall operands offset form physical slot inside fit other = absurd (other (named_call operands form))
-  code_word source.PseudoCallIndirect operands offset form physical slot inside fit other = held_call_word operands offset _ form physical
-  code_word source.PseudoTail operands offset form physical slot inside fit other = absurd (other (named_tail operands form))
-  code_word source.PseudoTailIndirect operands offset form physical slot inside fit other = held_tail_word operands offset _ form
-  code_word source.NoReturnCall operands offset form physical slot inside fit other = absurd (other (named_gone operands form))
-  code_word source.NoReturnCallIndirect operands offset form physical slot inside fit other = held_gone_word operands offset _ form
-  code_word source.PseudoRet operands offset form physical slot inside fit other =
+  code_word (source.Registers op) operands offset form physical slot inside reaches fit other = registers_word op operands offset _ form physical
+  code_word (source.Immediate op) operands offset form physical slot inside reaches fit other = immediate_word op operands offset form physical inside reaches
+  code_word source.Lui operands offset form physical slot inside reaches fit other = upper_word operands offset _ form physical
+  code_word (source.Branch op) operands offset form physical slot inside reaches fit other = branch_word op operands offset _ form physical fit
+  code_word (source.Load op) operands offset form physical slot inside reaches fit other = load_word op operands offset form physical slot inside
+  code_word (source.Store op) operands offset form physical slot inside reaches fit other = store_word op operands offset form physical slot inside
+  code_word source.Copy operands offset form physical slot inside reaches fit other = copy_word operands offset _ form physical
+  code_word source.PseudoBr operands offset form physical slot inside reaches fit other = jump_word operands offset _ form fit
+  code_word source.PseudoCall operands offset form physical slot inside reaches fit other = absurd (other (named_call operands form))
+  code_word source.PseudoCallIndirect operands offset form physical slot inside reaches fit other = held_call_word operands offset _ form physical
+  code_word source.PseudoTail operands offset form physical slot inside reaches fit other = absurd (other (named_tail operands form))
+  code_word source.PseudoTailIndirect operands offset form physical slot inside reaches fit other = held_tail_word operands offset _ form
+  code_word source.NoReturnCall operands offset form physical slot inside reaches fit other = absurd (other (named_gone operands form))
+  code_word source.NoReturnCallIndirect operands offset form physical slot inside reaches fit other = held_gone_word operands offset _ form
+  code_word source.PseudoRet operands offset form physical slot inside reaches fit other =
       with_word offset _ (instruction source.PseudoRet operands) (machine_op Jalr 0 1 0 (pos 0)) refl refl

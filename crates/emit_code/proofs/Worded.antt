@@ -9,6 +9,7 @@ use Rattle.rv64_instr.specs.declared.operand.Operand.TheVariants.{Block as OfBlo
 use Rattle.rv64_instr.specs.Form.{is_within, has_form}
 use Rattle.rv64_instr.specs.Instruction.{Instruction}
 use Rattle.rv64_instr.specs.Row.{Row, Fixes, Moves, Sets, Addresses, Loads, Stores, LoadsSlot, StoresSlot, Branches, Jumps, Calls, Returns, Unfit, row_of}
+use Rattle.rv64_instr.specs.View.{access_of}
 use Rattle.rv64_word.specs.declared.machine_op.MachineOp.{MachineOp}
 use Rattle.rv64_instr.specs.LocationEffects.{object_named, has_site}
 use Rattle.rv64_word.specs.MachineOp.{is_even}
@@ -24,7 +25,7 @@ use Rattle.mir_func.specs.Exits.{row_exit, exit_of}
 use Rattle.mir_func.specs.Graph.{Here, fetch_in}
 use Rattle.mir_func.specs.Objects.{offset_of}
 use Rattle.mir_func.specs.Sound.{AllItems, HasBytes, SlotIn, SlotsIn, ObjectIn, ObjectsIn, HasForm}
-use Rattle.mir_func.specs.SoundFrame.{own_size, slot_offsets, IsFramed, HasPhysical, IsPhysical}
+use Rattle.mir_func.specs.SoundFrame.{own_size, slot_offsets, AccessReaches, KindReaches, IsFramed, HasPhysical, IsPhysical}
 use Rattle.emit_code.specs.Counts.{MAX_BASE, count_of}
 use Rattle.emit_code.specs.LongBranch.{jump_to}
 use Rattle.emit_code.specs.Laid.{FormWorded, IsWorded, IsFit}
@@ -76,7 +77,7 @@ no_object : (n bytes : ℕ) → HasBytes [] n bytes → 0 + offset_of [] n + byt
 no_object n bytes has = let e : None ≡ Some has.0 = has.1 in absurd cc
 
 jump_has_word : (n : ℕ) (offset : ℤ) → IsTrue (is_within (negsuc 1048575) (pos 1048574) offset) → IsTrue (is_even offset) → HasWord offset 0 (jump_to n)
-jump_has_word n offset near even = code_word [] [] 0 no_slot no_object source.PseudoBr (OfBlock n ∷ []) offset refl (only_block n) tt tt (near, even) differ
+jump_has_word n offset near even = code_word [] [] 0 no_slot no_object source.PseudoBr (OfBlock n ∷ []) offset refl (only_block n) tt tt tt (near, even) differ
   where
     differ : false ≡ true → ⊥
     differ e = cc
@@ -157,11 +158,11 @@ module _ (l : Layout) (s : Sound l) where
   place_same (Some n) = refl
 
   code_has_word : (c : Instruction) (offset : ℤ) → IsTrue (has_form c.op c.operands) → All IsPhysical c.operands → SlotIn (slot_offsets l.framed) (row_of c) →
-      ObjectIn l.framed.objects (row_of c) → OffsetFits (row_exit (row_of c)) offset → (has_site (row_of c) ≡ true → ⊥) →
-      HasWord offset (object_offset l.framed (object_named (row_of c))) c
-  code_has_word c offset form physical slot object fit other =
-      let w = code_word (slot_offsets l.framed) l.framed.objects (own_size l.framed) slot_low room_of c.op c.operands offset form physical slot object fit other
-      in
+      ObjectIn l.framed.objects (row_of c) → AccessReaches (own_size l.framed) l.framed.objects (access_of (row_of c)) → OffsetFits (row_exit (row_of c)) offset →
+      (has_site (row_of c) ≡ true → ⊥) → HasWord offset (object_offset l.framed (object_named (row_of c))) c
+  code_has_word c offset form physical slot object reaches fit other =
+      let w = code_word (slot_offsets l.framed) l.framed.objects (own_size l.framed) slot_low room_of c.op c.operands offset form physical slot object reaches
+      fit other in
       subst (λ (n : ℕ). HasWord offset n c) (place_same (object_named (row_of c))) (record { operation = w.operation; is = w.is })
 
   module _ (p : Pos) (i : Item) (c : Instruction) (k : Option ℕ) (at : fetch_in (drop p.block l.framed.blocks) p.item ≡ Here i) (is : i.kind ≡ Code c k) where
@@ -172,7 +173,7 @@ module _ (l : Layout) (s : Sound l) where
         HasWord offset (object_offset l.framed (object_named (row_of c))) c
     has_word_at offset fit other =
         code_has_word c offset (of_kind HasForm s.forms) (of_kind HasPhysical s.framed.physical) (of_kind (SlotsIn (slot_offsets l.framed)) s.framed.slots).0
-        (of_kind (ObjectsIn l.framed.objects) s.framed.objects) fit other
+        (of_kind (ObjectsIn l.framed.objects) s.framed.objects) (of_kind (KindReaches (own_size l.framed) l.framed.objects) s.framed.addresses) fit other
 
     exit_is : exit_of i.kind ≡ row_exit (row_of c)
     exit_is = ap exit_of is

@@ -1,4 +1,5 @@
 pub mod Turns
 pub mod Offsets
+pub mod Ends
 pub mod Kept
 pub mod Made

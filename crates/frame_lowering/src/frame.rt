@@ -5,10 +5,11 @@ ghost use Rattle.mir_func.specs.Limits.{MAX_FRAME};
 ghost use Rattle.frame_rule.specs.Rule.{reach_of};
 ghost use Rattle.frame_lowering.specs.steps.Framing.{IsFrameOf};
 
+use crate::addresses::blocks_end;
 use crate::lower::LowerError;
 use crate::places::{DOUBLEWORD, saved_places};
 use crate::saving::saved_registers;
-use crate::sizes::{MAX_FRAME, reach, size};
+use crate::sizes::{MAX_FRAME, own_size, reach, size};
 use crate::slots::SlotOffsets;
 use mir_func::framed::Saved;
 use mir_func::func::Func;
@@ -27,7 +28,7 @@ pub struct Frame {
 
 impl Frame {
     /// Computes the frame of this function. The error is `FrameTooLarge` exactly if it has more than 2,032 bytes, or if
-    /// an argument on the stack ends more than 2,032 bytes above x2.
+    /// an argument on the stack ends, or an address of an object lies, more than 2,032 bytes above x2.
     pub fn new(alloc: Global, f: &Func) -> Result<Frame, LowerError>
         ensures made { IfOk result (IsFrameOf f.now) }
         ensures too_large { IsErrOf result LowerError.FrameTooLarge → MAX_FRAME < reach_of f.now }
@@ -36,7 +37,8 @@ impl Frame {
         let registers = saved_registers(alloc, f.blocks.as_slice())?;
         let objects = f.objects.as_slice();
         let count = slots.len() + registers.len();
-        let reach = reach(count, objects);
+        let end = reach(count, objects);
+        let reach = blocks_end(own_size(count), objects, end, f.blocks.as_slice());
         if MAX_FRAME < reach {
             return Err(LowerError::FrameTooLarge);
         }

@@ -4,6 +4,7 @@
 #![tactic(auto)]
 
 mod added;
+mod addresses;
 mod blocks;
 mod frame;
 pub mod lower;

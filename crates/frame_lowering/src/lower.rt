@@ -18,7 +18,8 @@ use thiserror::Error;
 /// Why the frame of a function couldn't be lowered.
 #[derive(Debug, Drop, Error)]
 pub enum LowerError {
-    /// Its frame would have more than 2,032 bytes, or an argument on the stack would end more than 2,032 above x2.
+    /// Its frame would have more than 2,032 bytes, or an argument on the stack would end, or an address of an object
+    /// lie, more than 2,032 above x2.
     #[error("the frame is too large")]
     FrameTooLarge,
     /// Memory ran out.
@@ -35,7 +36,8 @@ impl From<AllocError> for LowerError {
 }
 
 /// The function with its frame (RISC-V ELF psABI, "Integer Calling Convention"). The error is `FrameTooLarge` exactly
-/// if the frame would have more than 2,032 bytes, or if an argument on the stack would end more than 2,032 above x2.
+/// if the frame would have more than 2,032 bytes, or if an argument on the stack would end, or an address of an object
+/// lie, more than 2,032 above x2.
 pub fn lower(alloc: Global, f: &Func) -> Result<Framed, LowerError>
     requires physical { AllItems (λ i. HasPhysical i.kind) f.now.blocks }
     ensures framed { IfOk result (λ g. g ≡ framed_of f.now) }

@@ -13,6 +13,15 @@ pub const MAX_FRAME: u64 = 2_032;
 /// The alignment of a frame's size, in bytes (RISC-V ELF psABI, "Integer Calling Convention").
 const ALIGNMENT: u64 = 16;
 
+/// The bytes of this many slots and saved registers, rounded up to a multiple of 16.
+pub fn own_size(count: usize) -> u64
+    requires { count ≤ 1024 }
+    ensures value { result ≡ up_to 16 (8 * count) }
+    ensures small { result ≤ 8192 }
+{
+    up_to(ALIGNMENT, 8 * count as u64)
+}
+
 /// The bytes from x2 up to the end of a frame with this many slots and saved registers, and these stack objects, or up
 /// to the end of a fixed object that ends above it.
 pub fn reach(count: usize, objects: &[Object]) -> u64

@@ -9,12 +9,13 @@ use Rattle.mir_func.specs.declared.position.Origin.TheVariants.{Before}
 use Rattle.mir_func.specs.Function.{Function}
 use Rattle.mir_func.specs.Graph.{block_start}
 use Rattle.mir_func.specs.Sound.{AreApart, ids_of, AllItems, TargetsIn, LeavesPointer, EndsWell, LastCloses, IsSound}
-use Rattle.mir_func.specs.SoundFrame.{SAVED, HasPhysical, prologue_code, epilogue_code, AreCode, GivesBack, HasFrame, body_of, NumberedAlike, IsFramed}
-use Rattle.frame_rule.specs.Rule.{saved_of, size_of, reach_of, added_all, framed_block, framed_blocks, framed_of}
-use Rattle.frame_rule.proofs.Reach.{size_fits}
+use Rattle.mir_func.specs.SoundFrame.{SAVED, own_size, HasPhysical, prologue_code, epilogue_code, AreCode, GivesBack, HasFrame, body_of, NumberedAlike}
+use Rattle.mir_func.specs.SoundFrame.{KindReaches, IsFramed}
+use Rattle.frame_rule.specs.Rule.{saved_of, own_size_of, size_of, reach_of, added_all, framed_block, framed_blocks, framed_of}
+use Rattle.frame_rule.proofs.Reach.{size_fits, extent_fits, addresses_fit}
 use Rattle.frame_rule.proofs.Saved.{saved_in, none_saved}
 use Rattle.frame_rule.proofs.Offsets.{offsets_apart, offsets_laid, offsets_fit, count_is}
-use Rattle.frame_rule.proofs.Parts.{slots_hold, passed_hold, objects_hold, targets_hold, physical_holds}
+use Rattle.frame_rule.proofs.Parts.{slots_hold, passed_hold, objects_hold, addresses_hold, targets_hold, physical_holds}
 use Rattle.frame_rule.proofs.Ends.{saved_ascend, are_code, ends_well, last_closes, gives_back, leaves_all}
 
 module _ (f : Function) (sound : IsSound f) where
@@ -78,11 +79,12 @@ module _ (f : Function) (sound : IsSound f) where
         let body : body_of (framed_blocks f f.blocks) ≡ map (framed_block f) f.blocks =
         subst (λ (bs : List Block). body_of (framed_blocks f bs) ≡ map (framed_block f) bs) (sym e) refl in
         let ids : ids_of (body_of (framed_blocks f f.blocks)) ≡ ids_of f.blocks = ap ids_of body ∙ same_ids f.blocks in
+        let own : own_size (framed_of f) ≡ own_size_of f = omega arith in
         record {
           aligned = omega arith;
           small = size_fits f 2032 fits;
           room = omega arith;
-          reach = omega (arith, fits);
+          reach = omega (arith, extent_fits f 2032 fits);
           few = (let a = count_is f in let b = sound.few_slots in omega (arith, a, b));
           offsets = offsets_fit f;
           offsets_apart = offsets_apart f;
@@ -93,6 +95,8 @@ module _ (f : Function) (sound : IsSound f) where
           slots = slots_hold f f.blocks sound.slots;
           passed = passed_hold f sound.slots_apart f.blocks sound.passed;
           objects = objects_hold f f.blocks sound.objects;
+          addresses = subst (λ (n : ℕ). AllItems (λ i. KindReaches n f.objects i.kind) (framed_blocks f f.blocks)) (sym own)
+              (addresses_hold f (own_size_of f) f.blocks (addresses_fit f fits));
           saved = saved_ascend f;
           saved_kept = saved_all;
           physical = physical_holds f f.blocks physical;

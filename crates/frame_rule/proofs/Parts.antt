@@ -10,6 +10,7 @@ use Rattle.rv64_instr.specs.declared.place.Place.TheVariants.{Register, Slot as 
 use Rattle.rv64_instr.specs.Arithmetic.{word}
 use Rattle.rv64_instr.specs.Row.{Row, LoadsSlot, StoresSlot, Calls, row_of}
 use Rattle.rv64_instr.specs.Row.{add_row}
+use Rattle.rv64_instr.specs.View.{access_of}
 use Rattle.mir_func.specs.declared.block.Block.{Block}
 use Rattle.mir_func.specs.declared.exit.Exit.TheVariants.{Onward}
 use Rattle.mir_func.specs.declared.framed.SavedRegister.{SavedRegister}
@@ -25,7 +26,7 @@ use Rattle.mir_func.specs.Graph.{block_start}
 use Rattle.mir_func.specs.Sound.{AreApart, PassesFirst, KindPassesFirst}
 use Rattle.mir_func.specs.Sound.{AllItems, TargetIn, TargetsIn, SlotIn, PassedIn, SlotsIn, PlaceIn, ObjectIn, ObjectsIn, IsNotPointer}
 use Rattle.mir_func.specs.SoundFrame.{IsPhysical, PlaceIsPhysical, HasPhysical, slot_offsets, adds_to_pointer, saves, restores, prologue_code}
-use Rattle.mir_func.specs.SoundFrame.{epilogue_code}
+use Rattle.mir_func.specs.SoundFrame.{epilogue_code, AccessReaches, KindReaches}
 use Rattle.mir_func.specs.Positions.{position_of}
 use Rattle.frame_rule.specs.Rule.{saved_of, size_of, added, added_all, epilogue, renamed_operand}
 use Rattle.frame_rule.specs.Rule.{renamed_place, renamed_kind, renamed, framed_item, framed_items, framed_block, prologue_block, framed_blocks}
@@ -62,6 +63,11 @@ object_same : (slots : List ℕ) (objects : List StackObject) (r : Row) → Obje
 object_same slots objects (LoadsSlot rd n) = refl
 object_same slots objects _ = refl
 
+reach_same : (slots : List ℕ) (own : ℕ) (objects : List StackObject) (r : Row) →
+    AccessReaches own objects (access_of (renamed_row slots r)) ≡ AccessReaches own objects (access_of r)
+reach_same slots own objects (LoadsSlot rd n) = refl
+reach_same slots own objects _ = refl
+
 slot_in : (f : Function) (r : Row) → SlotIn f.slots r → SlotIn (slot_offsets (framed_of f)) (renamed_row f.slots r)
 slot_in f (LoadsSlot rd n) h = slot_has_offset f n h
 slot_in f (StoresSlot rs n) h = slot_has_offset f n h
@@ -92,6 +98,10 @@ adds_slot offsets (suc n) = tt
 adds_object : (objects : List StackObject) (n : ℕ) → ObjectIn objects (add_row 2 2 n)
 adds_object objects zero = tt
 adds_object objects (suc n) = tt
+
+adds_reach : (own : ℕ) (objects : List StackObject) (n : ℕ) → AccessReaches own objects (access_of (add_row 2 2 n))
+adds_reach own objects zero = tt
+adds_reach own objects (suc n) = tt
 
 adds_target : (ids : List ℕ) (n : ℕ) → TargetIn ids (add_row 2 2 n)
 adds_target ids zero = tt
@@ -257,6 +267,25 @@ module _ (f : Function) where
         by_row x y e k = subst (ObjectIn f.objects) (sym e) (subst (λ (T : Type 0). T) (sym (object_same slots f.objects y)) k)
 
         by_kind : (k : ItemKind) → ObjectsIn f.objects k → ObjectsIn f.objects (renamed_kind slots k)
+        by_kind (Code i n) k = by_row _ (row_of i) (row_renamed slots i) k
+        by_kind (Mark v m) k = tt
+        by_kind (Phi p n) k = tt
+
+  pub addresses_hold : (own : ℕ) (bs : List Block) → AllItems (λ i. KindReaches own f.objects i.kind) bs →
+      AllItems (λ i. KindReaches own f.objects i.kind) (framed_blocks f bs)
+  addresses_hold own bs h =
+      blocks_all (KindReaches own f.objects) (record {
+        lowers = adds_reach own f.objects (word (pos 0 -ℤ pos size));
+        raises = adds_reach own f.objects (word (pos size));
+        saving = λ s k. tt;
+        loading = λ s k. tt;
+      }) (λ i. KindReaches own f.objects i.kind) (λ i k. by_kind i.kind k) bs h where
+        by_row : (x y : Row) → x ≡ renamed_row slots y → AccessReaches own f.objects (access_of y) → AccessReaches own f.objects (access_of x)
+        by_row x y e k =
+            subst (λ (r : Row). AccessReaches own f.objects (access_of r)) (sym e)
+            (subst (λ (T : Type 0). T) (sym (reach_same slots own f.objects y)) k)
+
+        by_kind : (k : ItemKind) → KindReaches own f.objects k → KindReaches own f.objects (renamed_kind slots k)
         by_kind (Code i n) k = by_row _ (row_of i) (row_renamed slots i) k
         by_kind (Mark v m) k = tt
         by_kind (Phi p n) k = tt

@@ -5,7 +5,7 @@
 -- the saved registers, up to a multiple of 16, and above them the stack objects. A prologue before the first block
 -- allocates the frame and saves registers, and an epilogue right before each return restores them and deallocates the
 -- frame. Nothing else is added, and the rest is unchanged, except that slots are named by their offsets from x2.
-use Rattle.std.specs.Prelude.{ℕ, zero, suc, ◌+◌, ◌*◌, Bool, false, not, ◌||◌, ◌&&◌, cond, nat_eq, List, [], ◌∷◌, ◌++◌, map}
+use Rattle.std.specs.Prelude.{ℕ, zero, suc, ◌+◌, ◌*◌, ◌^◌, max, Bool, false, not, ◌||◌, ◌&&◌, cond, nat_eq, nat_lt, List, [], ◌∷◌, ◌++◌, map}
 use Rattle.std.specs.Prelude.{length, filter, Option, Some, None}
 use Rattle.std.specs.List.{flat_map, list_any}
 use Rattle.rv64_instr.specs.declared.operand.Operand.{Operand}
@@ -16,19 +16,21 @@ use Rattle.rv64_instr.specs.declared.place.Place.TheVariants.{Register, Slot as 
 use Rattle.rv64_instr.specs.Instruction.{Instruction}
 use Rattle.rv64_instr.specs.Row.{Row, Returns, row_of, way_leads_back}
 use Rattle.rv64_instr.specs.DefsAndUses.{sets}
+use Rattle.rv64_instr.specs.View.{Access, NoAccess, SlotAccess, MemoryAccess, ObjectAddress, access_of}
 use Rattle.mir_func.specs.declared.block.Block.{Block}
 use Rattle.mir_func.specs.declared.framed.SavedRegister.{SavedRegister}
 use Rattle.mir_func.specs.declared.framed.SlotPlace.{SlotPlace}
 use Rattle.mir_func.specs.declared.item.Item.{Item}
 use Rattle.mir_func.specs.declared.item.ItemKind.{ItemKind}
 use Rattle.mir_func.specs.declared.item.ItemKind.TheVariants.{Code, Mark, Phi}
+use Rattle.mir_func.specs.declared.object.Object.{Object}
 use Rattle.mir_func.specs.declared.location.Loc.TheVariants.{Absent}
 use Rattle.mir_func.specs.declared.position.Origin.{Origin}
 use Rattle.mir_func.specs.declared.position.Origin.TheVariants.{Before}
 use Rattle.mir_func.specs.Exits.{leads_back}
 use Rattle.mir_func.specs.Function.{Function, FramedFunction}
 use Rattle.mir_func.specs.Graph.{block_start}
-use Rattle.mir_func.specs.Objects.{up_to, area_of, extent_of}
+use Rattle.mir_func.specs.Objects.{up_to, area_of, extent_of, offset_of}
 use Rattle.mir_func.specs.SoundFrame.{SAVED, prologue_code, epilogue_code}
 use Rattle.mir_func.specs.Positions.{position_of}
 
@@ -84,9 +86,32 @@ own_size_of f = up_to 16 (8 * (length f.slots + length (saved_registers f.blocks
 abbrev pub size_of : Function → ℕ
 size_of f = own_size_of f + area_of f.objects
 
--- the bytes from x2 up to the end of the frame, or of an argument on the stack that ends above it
+-- how far above x2 the address of an object lies that an access forms, where the objects lie above so many bytes; 0 for one below its object
+abbrev pub access_end : (own : ℕ) → List Object → Access → ℕ
+access_end own objects NoAccess = 0
+access_end own objects (SlotAccess n) = 0
+access_end own objects (MemoryAccess base offset width) = 0
+access_end own objects (ObjectAddress n offset) = cond (nat_lt offset (2 ^ 63)) (own + offset_of objects n + offset) 0
+
+-- the same of an item
+abbrev pub kind_end : (own : ℕ) → List Object → ItemKind → ℕ
+kind_end own objects (Code i k) = access_end own objects (access_of (row_of i))
+kind_end own objects (Mark v m) = 0
+kind_end own objects (Phi p k) = 0
+
+-- the greatest of items, or n
+unfoldable pub items_end : (own : ℕ) → List Object → ℕ → List Item → ℕ
+items_end own objects n [] = n
+items_end own objects n (i ∷ items) = items_end own objects (max n (kind_end own objects i.kind)) items
+
+-- the greatest of blocks, or n
+unfoldable pub blocks_end : (own : ℕ) → List Object → ℕ → List Block → ℕ
+blocks_end own objects n [] = n
+blocks_end own objects n (b ∷ blocks) = blocks_end own objects (items_end own objects n b.items) blocks
+
+-- the bytes from x2 up to the end of the frame, or of an argument on the stack that ends above it, or up to an address of an object above both
 abbrev pub reach_of : Function → ℕ
-reach_of f = own_size_of f + extent_of f.objects
+reach_of f = blocks_end (own_size_of f) f.objects (own_size_of f + extent_of f.objects) f.blocks
 
 -- ---- what is added
 

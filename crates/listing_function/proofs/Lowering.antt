@@ -1,6 +1,6 @@
 -- The operands that a slot or an object is listed by have the form of the opcode: the frame is so small that each offset from x2 is
 -- one of 12 bits.
-use Rattle.std.proofs.Common.{◌≡◌, ℕ, ◌+◌, ◌≤◌, ℤ, pos, true, false, ◌&&◌, List, [], ◌∷◌}
+use Rattle.std.proofs.Common.{◌≡◌, ℕ, ◌+◌, ◌^◌, ◌<◌, ◌≤◌, ℤ, pos, negsuc, true, false, ◌&&◌, List, [], ◌∷◌}
 use Rattle.std.proofs.Common.{refl, ap, ◌∙◌, arith}
 use Rattle.std.specs.Prelude.{Contains, ◌+ℤ◌}
 use Rattle.std.specs.List.{list_all}
@@ -26,18 +26,22 @@ use Rattle.rv64_instr.specs.Form.{fits_registers, fits_immediate, fits_upper, fi
 use Rattle.rv64_instr.specs.Form.{fits_call, fits_gone, fits_held_gone, is_held_tail_use, is_held_tail_register, fits_held_call, fits_tail, fits_held_tail}
 use Rattle.rv64_instr.proofs.Tails.{held_tail_uses}
 use Rattle.rv64_instr.specs.Row.{row_by, load_row, store_row, number_row}
+use Rattle.rv64_instr.specs.View.{access_of}
 use Rattle.mir_func.specs.Function.{FramedFunction}
 use Rattle.mir_func.specs.Objects.{offset_of}
 use Rattle.mir_func.specs.Sound.{HasBytes, SlotIn, ObjectIn}
-use Rattle.mir_func.specs.SoundFrame.{own_size, slot_offsets, IsFramed, IsSlotOffset}
+use Rattle.mir_func.specs.SoundFrame.{own_size, slot_offsets, AccessReaches, IsFramed, IsSlotOffset}
 use Rattle.emit_code.specs.Listed.{by_pointer}
 use Rattle.mir_func.proofs.Ends.{bytes_within}
-use Rattle.listing_meaning.proofs.Operands.{Added, added, added_in, at_least, results_stay}
+use Rattle.listing_meaning.proofs.Operands.{Added, added, added_in, small, tiny, results_stay}
 
 -- ---- numbers
 
 fits_low : (n : ℕ) → n ≤ 2047 → has_12_bits (pos n) ≡ true
 fits_low n low = grind (arith, nat_tests, ints)
+
+fits_below : (n k : ℕ) → n ≤ 2047 → k ≤ 2047 → has_12_bits (pos n +ℤ negsuc k) ≡ true
+fits_below n k low small = grind (arith, nat_tests, ints)
 
 module _ (f : FramedFunction) (framed : IsFramed f) where
   room_of : (n bytes : ℕ) → HasBytes f.objects n bytes → own_size f + offset_of f.objects n + bytes ≤ 2047
@@ -67,6 +71,18 @@ module _ (f : FramedFunction) (framed : IsFramed f) where
   object_fits n extra i rest has bits all =
       (λ j. object_bits n extra i has (added_in f framed n extra i bits has) j && list_all is_implicit rest) ∙ all
 
+  -- an address, which lies low enough above x2 if it doesn't lie below its object
+  address_bits : (n : ℕ) (i : ℤ) → HasBytes f.objects n 0 → has_12_bits i ≡ true →
+      (word i < 2 ^ 63 → own_size f + offset_of f.objects n + word i ≤ 2032) → has_12_bits (pos (own_size f + offset_of f.objects n) +ℤ i) ≡ true
+  address_bits n (pos m) has bits reaches =
+      let small = tiny m bits in
+      let sum = reaches (omega (arith, small)) in
+      fits_low (own_size f + offset_of f.objects n + m) (omega (arith, small, sum))
+  address_bits n (negsuc k) has bits reaches =
+      let low = room_of n 0 has in
+      let less = small k bits in
+      fits_below (own_size f + offset_of f.objects n) k (omega (arith, low)) (omega (arith, less))
+
   -- ---- of each opcode
 
   load_formed : (op : LoadOp) (os : List Operand) → fits_load op os ≡ true → SlotIn (slot_offsets f) (load_row op os) → ObjectIn f.objects (load_row op os) →
@@ -91,13 +107,14 @@ module _ (f : FramedFunction) (framed : IsFramed f) where
   store_formed op (Use rs ∷ Use b ∷ Part Lower y ∷ rest) form slots objects = form
   store_formed op os form slots objects = absurd cc
 
-  sum_formed : (os : List Operand) → fits_immediate Addi os ≡ true → ObjectIn f.objects (number_row Addi os) → fits_immediate Addi (by_pointer f os) ≡ true
-  sum_formed (Def rd ∷ Use b ∷ Imm i ∷ rest) form objects = form
-  sum_formed (Def rd ∷ OfObject n ∷ Imm i ∷ rest) form objects =
+  sum_formed : (os : List Operand) → fits_immediate Addi os ≡ true → ObjectIn f.objects (number_row Addi os) →
+      AccessReaches (own_size f) f.objects (access_of (number_row Addi os)) → fits_immediate Addi (by_pointer f os) ≡ true
+  sum_formed (Def rd ∷ Use b ∷ Imm i ∷ rest) form objects reaches = form
+  sum_formed (Def rd ∷ OfObject n ∷ Imm i ∷ rest) form objects reaches =
       let both = and_parts (has_12_bits i) (list_all is_implicit rest) form in
-      object_fits n 0 i rest (at_least f framed n (word i) objects) both.0 both.1
-  sum_formed (Def rd ∷ Use b ∷ Part Lower y ∷ rest) form objects = form
-  sum_formed os form objects = absurd cc
+      (λ j. address_bits n i objects both.0 reaches j && list_all is_implicit rest) ∙ both.1
+  sum_formed (Def rd ∷ Use b ∷ Part Lower y ∷ rest) form objects reaches = form
+  sum_formed os form objects reaches = absurd cc
 
   number_formed : (op : ImmediateOp) (os : List Operand) → fits_immediate op os ≡ true → is_addi op ≡ false → fits_immediate op (by_pointer f os) ≡ true
   number_formed op (Def rd ∷ Use b ∷ Imm i ∷ rest) form other = form
@@ -108,20 +125,20 @@ module _ (f : FramedFunction) (framed : IsFramed f) where
   number_formed op os form other = absurd cc
 
   immediate_formed : (op : ImmediateOp) (os : List Operand) → fits_immediate op os ≡ true → ObjectIn f.objects (number_row op os) →
-      fits_immediate op (by_pointer f os) ≡ true
-  immediate_formed Addi os form objects = sum_formed os form objects
-  immediate_formed Slti os form objects = number_formed Slti os form refl
-  immediate_formed Sltiu os form objects = number_formed Sltiu os form refl
-  immediate_formed Xori os form objects = number_formed Xori os form refl
-  immediate_formed Ori os form objects = number_formed Ori os form refl
-  immediate_formed Andi os form objects = number_formed Andi os form refl
-  immediate_formed Slli os form objects = number_formed Slli os form refl
-  immediate_formed Srli os form objects = number_formed Srli os form refl
-  immediate_formed Srai os form objects = number_formed Srai os form refl
-  immediate_formed Addiw os form objects = number_formed Addiw os form refl
-  immediate_formed Slliw os form objects = number_formed Slliw os form refl
-  immediate_formed Srliw os form objects = number_formed Srliw os form refl
-  immediate_formed Sraiw os form objects = number_formed Sraiw os form refl
+      AccessReaches (own_size f) f.objects (access_of (number_row op os)) → fits_immediate op (by_pointer f os) ≡ true
+  immediate_formed Addi os form objects reaches = sum_formed os form objects reaches
+  immediate_formed Slti os form objects reaches = number_formed Slti os form refl
+  immediate_formed Sltiu os form objects reaches = number_formed Sltiu os form refl
+  immediate_formed Xori os form objects reaches = number_formed Xori os form refl
+  immediate_formed Ori os form objects reaches = number_formed Ori os form refl
+  immediate_formed Andi os form objects reaches = number_formed Andi os form refl
+  immediate_formed Slli os form objects reaches = number_formed Slli os form refl
+  immediate_formed Srli os form objects reaches = number_formed Srli os form refl
+  immediate_formed Srai os form objects reaches = number_formed Srai os form refl
+  immediate_formed Addiw os form objects reaches = number_formed Addiw os form refl
+  immediate_formed Slliw os form objects reaches = number_formed Slliw os form refl
+  immediate_formed Srliw os form objects reaches = number_formed Srliw os form refl
+  immediate_formed Sraiw os form objects reaches = number_formed Sraiw os form refl
 
   registers_formed : (os : List Operand) → fits_registers os ≡ true → fits_registers (by_pointer f os) ≡ true
   registers_formed (Def rd ∷ Use a ∷ Use b ∷ rest) form = form
@@ -182,19 +199,19 @@ module _ (f : FramedFunction) (framed : IsFramed f) where
   held_tail_formed os form = absurd cc
 
   pub operands_formed : (op : Op) (os : List Operand) → has_form op os ≡ true → SlotIn (slot_offsets f) (row_by op os) → ObjectIn f.objects (row_by op os) →
-      has_form op (by_pointer f os) ≡ true
-  operands_formed (Registers op) os form slots objects = registers_formed os form
-  operands_formed (Immediate op) os form slots objects = immediate_formed op os form objects
-  operands_formed Lui os form slots objects = upper_formed os form
-  operands_formed (Branch op) os form slots objects = branch_formed os form
-  operands_formed (Load op) os form slots objects = load_formed op os form slots objects
-  operands_formed (Store op) os form slots objects = store_formed op os form slots objects
-  operands_formed Copy os form slots objects = copy_formed os form
-  operands_formed PseudoBr os form slots objects = jump_formed os form
-  operands_formed PseudoCall os form slots objects = call_formed os form
-  operands_formed PseudoCallIndirect os form slots objects = held_call_formed os form
-  operands_formed PseudoTail os form slots objects = tail_formed os form
-  operands_formed PseudoTailIndirect os form slots objects = held_tail_formed os form
-  operands_formed NoReturnCall os form slots objects = gone_formed os form
-  operands_formed NoReturnCallIndirect os form slots objects = held_gone_formed os form
-  operands_formed PseudoRet os form slots objects = ap (list_all is_result) (results_stay f framed os form) ∙ form
+      AccessReaches (own_size f) f.objects (access_of (row_by op os)) → has_form op (by_pointer f os) ≡ true
+  operands_formed (Registers op) os form slots objects reaches = registers_formed os form
+  operands_formed (Immediate op) os form slots objects reaches = immediate_formed op os form objects reaches
+  operands_formed Lui os form slots objects reaches = upper_formed os form
+  operands_formed (Branch op) os form slots objects reaches = branch_formed os form
+  operands_formed (Load op) os form slots objects reaches = load_formed op os form slots objects
+  operands_formed (Store op) os form slots objects reaches = store_formed op os form slots objects
+  operands_formed Copy os form slots objects reaches = copy_formed os form
+  operands_formed PseudoBr os form slots objects reaches = jump_formed os form
+  operands_formed PseudoCall os form slots objects reaches = call_formed os form
+  operands_formed PseudoCallIndirect os form slots objects reaches = held_call_formed os form
+  operands_formed PseudoTail os form slots objects reaches = tail_formed os form
+  operands_formed PseudoTailIndirect os form slots objects reaches = held_tail_formed os form
+  operands_formed NoReturnCall os form slots objects reaches = gone_formed os form
+  operands_formed NoReturnCallIndirect os form slots objects reaches = held_gone_formed os form
+  operands_formed PseudoRet os form slots objects reaches = ap (list_all is_result) (results_stay f framed os form) ∙ form

@@ -199,7 +199,7 @@ module _ (inlined : ℕ → Option ℕ) (l : Layout) (framed : IsFramed l.framed
   instruction_printable : (c : Instruction) (k : Option ℕ) → has_form c.op c.operands ≡ true → IsPlaced l.framed (Code c k) → All HasNumbers c.operands →
       IsPrintableInstruction none (listed l.framed c)
   instruction_printable c k form placed numbers =
-      let lowered = operands_formed l.framed framed c.op c.operands form placed.0.0 placed.1 in
+      let lowered = operands_formed l.framed framed c.op c.operands form placed.0.0 placed.1 placed.2 in
       record {
         form = lowered;
         numbers = numbers_by c.op c.operands numbers lowered;
@@ -355,8 +355,8 @@ printable inlined l variables substitutions framed worded fit high vs es =
     let low : All IsLow (entries_of l) = entries_low l.base (entries_of l) (l.base + sum_by (site_size l.long) (sites_of l.framed)) (stands l) below in
     let placed : AllItems (λ i. IsPlaced l.framed i.kind) l.framed.blocks = λ k d less j e within. (
       framed.slots k d less j e within,
-      framed.objects k d less j e
-          within,
+      framed.objects k d less j e within,
+      framed.addresses k d less j e within,
     ) in
     record {
       low = omega (arith, high);

@@ -1,5 +1,5 @@
 -- The operands of code that is listed are raised to what they were, but that an access names the last object that has its byte.
-use Rattle.std.proofs.Common.{◌≡◌, ℕ, zero, suc, ◌+◌, ◌-◌, ◌<◌, ◌≤◌, ℤ, pos, negsuc, Bool, true, false, ◌&&◌, cond, nat_eq, List, [], ◌∷◌}
+use Rattle.std.proofs.Common.{◌≡◌, ℕ, zero, suc, ◌+◌, ◌-◌, ◌<◌, ◌≤◌, ℤ, pos, negsuc, ◌+ℤ◌, ◌-ℤ◌, Bool, true, false, ◌&&◌, cond, nat_eq, List, [], ◌∷◌}
 use Rattle.std.proofs.Common.{◌++◌, Option, Some, refl, ap, sym, ◌∙◌, subst, arith}
 use Rattle.std.specs.Prelude.{All, Contains}
 use Rattle.std.specs.List.{list_all}
@@ -38,7 +38,8 @@ use Rattle.emit_code.specs.Listed.{by_pointer}
 use Rattle.listing_meaning.specs.Frame.{ShownObject, object_at, in_object, by_pointer as by_pointer_at, by_object, accessed, raised_operands, raised_load}
 use Rattle.listing_meaning.specs.Frame.{raised_store}
 use Rattle.listing_meaning.specs.Frame.{raised_sum, raised_number}
-use Rattle.listing_meaning.specs.Settled.{frame_of, settled_operands, settled_sum, IsAlone, LeadsInside}
+use Rattle.listing_meaning.specs.Frame.{first_object, or_object, object_near, addressed, address_at}
+use Rattle.listing_meaning.specs.Settled.{object_placed, frame_of, settled_operands, settled_sum, settled_address, IsAlone, LeadsInside}
 use Rattle.listing_meaning.proofs.Raising.{found_at, id_found}
 
 -- an explicit x2 stands where x2 is lowered or raised alone
@@ -51,10 +52,10 @@ IsSteady op os = Unit {0}
 
 -- ---- numbers
 
-small : (k : ℕ) → has_12_bits (negsuc k) ≡ true → k < 2048
+pub small : (k : ℕ) → has_12_bits (negsuc k) ≡ true → k < 2048
 small k e = grind (arith, nat_tests, ints)
 
-tiny : (m : ℕ) → has_12_bits (pos m) ≡ true → m < 2048
+pub tiny : (m : ℕ) → has_12_bits (pos m) ≡ true → m < 2048
 tiny m e = grind (arith, nat_tests, ints)
 
 zero_only : (i : ℤ) → is_within (pos 0) (pos 0) i ≡ true → i ≡ pos 0
@@ -84,6 +85,9 @@ sound_found (x ∷ os) n o all e =
 -- what is added in an object isn't negative, and is itself
 pub data Added : ℤ → Type 0 where
   added : (m : ℕ) → word (pos m) ≡ m → Added (pos m)
+
+difference : (a m : ℕ) → pos (a + m) -ℤ pos a ≡ pos m
+difference a m = grind (arith, ints)
 
 module _ (f : FramedFunction) (framed : IsFramed f) where
   pub added_in : (n extra : ℕ) (i : ℤ) → has_12_bits i ≡ true → HasBytes f.objects n (word i + extra) → Added i
@@ -197,9 +201,8 @@ module _ (f : FramedFunction) (framed : IsFramed f) where
   -- ---- sums
 
   pointer_sum : (rd : ℕ) (i : ℤ) (rest : List Operand) → rd ≡ 2 → raised_sum (frame_of f) (Def rd ∷ Use 2 ∷ Imm i ∷ rest) ≡ Def rd ∷ Use 2 ∷ Imm i ∷ rest
-  pointer_sum rd (pos n) rest is =
-      ap (λ (q : Bool). Def rd ∷ cond q (Use 2 ∷ Imm (pos n) ∷ []) (accessed (frame_of f) false n) ++ rest) (ap (λ (r : ℕ). nat_eq r 2) is)
-  pointer_sum rd (negsuc n) rest is = refl
+  pointer_sum rd i rest is =
+      ap (λ (q : Bool). Def rd ∷ cond q (Use 2 ∷ Imm i ∷ []) (address_at (frame_of f) i) ++ rest) (ap (λ (r : ℕ). nat_eq r 2) is)
 
   other_sum : (rd b : ℕ) (i : ℤ) (rest : List Operand) → (b ≡ 2 → rd ≡ 2) → raised_sum (frame_of f) (Def rd ∷ Use b ∷ Imm i ∷ rest) ≡
       Def rd ∷ Use b ∷ Imm i ∷ rest
@@ -215,26 +218,20 @@ module _ (f : FramedFunction) (framed : IsFramed f) where
   part_sum rd (suc (suc zero)) half y rest = refl
   part_sum rd (suc (suc (suc b))) half y rest = refl
 
-  object_sum : (rd n : ℕ) (i : ℤ) (rest : List Operand) → (rd ≡ 2 → ⊥) → Added i →
-      raised_sum (frame_of f) (by_pointer f (Def rd ∷ OfObject n ∷ Imm i ∷ rest)) ≡ settled_sum f (Def rd ∷ OfObject n ∷ Imm i ∷ rest)
-  object_sum rd n i rest other (added m same) =
-      let x = own_size f + offset_of f.objects n + m in
-      ap (λ (q : Bool). Def rd ∷ cond q (Use 2 ∷ Imm (pos x) ∷ []) (accessed (frame_of f) false x) ++ rest) (ne_eqb rd 2 other) ∙
-      ap (λ (os : List Operand). Def rd ∷ os ++ rest) (above false x (omega arith))
-
-  pub at_least : (n x : ℕ) → HasBytes f.objects n x → HasBytes f.objects n (x + 0)
-  at_least n x (o, found, fits) = (o, found, omega (arith, fits))
+  object_sum : (rd n : ℕ) (i : ℤ) (rest : List Operand) → (rd ≡ 2 → ⊥) →
+      raised_sum (frame_of f) (by_pointer f (Def rd ∷ OfObject n ∷ Imm i ∷ rest)) ≡ settled_address f (Def rd ∷ OfObject n ∷ Imm i ∷ rest)
+  object_sum rd n i rest other =
+      let z : ℤ = pos (own_size f + offset_of f.objects n) +ℤ i in
+      ap (λ (q : Bool). Def rd ∷ cond q (Use 2 ∷ Imm z ∷ []) (address_at (frame_of f) z) ++ rest) (ne_eqb rd 2 other)
 
   sum_back : (os : List Operand) → fits_immediate Addi os ≡ true → IsSteady (Immediate Addi) os → ObjectIn f.objects (number_row Addi os) →
-      raised_sum (frame_of f) (by_pointer f os) ≡ settled_sum f os
+      raised_sum (frame_of f) (by_pointer f os) ≡ settled_address f os
   sum_back (Def rd ∷ Use b ∷ Imm i ∷ rest) form steady objects = other_sum rd b i rest steady
-  sum_back (Def rd ∷ OfObject n ∷ Imm i ∷ rest) form steady objects =
-      let bits = (and_parts (has_12_bits i) (list_all is_implicit rest) form).0 in
-      object_sum rd n i rest steady (added_in n 0 i bits (at_least n (word i) objects))
+  sum_back (Def rd ∷ OfObject n ∷ Imm i ∷ rest) form steady objects = object_sum rd n i rest steady
   sum_back (Def rd ∷ Use b ∷ Part Lower y ∷ rest) form steady objects = part_sum rd b Lower y rest
   sum_back os form steady objects = absurd cc
 
-  unraised : (op : ImmediateOp) (os : List Operand) → fits_immediate op os ≡ true → is_addi op ≡ false → by_pointer f os ≡ settled_sum f os
+  unraised : (op : ImmediateOp) (os : List Operand) → fits_immediate op os ≡ true → is_addi op ≡ false → by_pointer f os ≡ settled_address f os
   unraised op (Def rd ∷ Use b ∷ Imm i ∷ rest) form other = refl
   unraised op (Def rd ∷ OfObject n ∷ Imm i ∷ rest) form other =
       let is = (and_parts (is_addi op) (is_immediate op i) (and_parts (is_addi op && is_immediate op i) (list_all is_implicit rest) form).0).0 in
@@ -243,7 +240,7 @@ module _ (f : FramedFunction) (framed : IsFramed f) where
   unraised op os form other = absurd cc
 
   immediate_back : (op : ImmediateOp) (os : List Operand) → fits_immediate op os ≡ true → IsSteady (Immediate op) os →
-      ObjectIn f.objects (number_row op os) → raised_number (frame_of f) op (by_pointer f os) ≡ settled_sum f os
+      ObjectIn f.objects (number_row op os) → raised_number (frame_of f) op (by_pointer f os) ≡ settled_address f os
   immediate_back Addi os form steady objects = sum_back os form steady objects
   immediate_back Slti os form steady objects = unraised Slti os form refl
   immediate_back Sltiu os form steady objects = unraised Sltiu os form refl
@@ -351,11 +348,36 @@ module _ (f : FramedFunction) (framed : IsFramed f) where
       ap (λ (os : List Operand). register ∷ os ++ rest)
       (object_back n m (word (pos m) + extra) has (omega (arith, same, some)) (subst (IsAlone f.objects n) same alone))
 
-  sum_same : (os : List Operand) → fits_immediate Addi os ≡ true → LeadsInside f.objects (number_row Addi os) → settled_sum f os ≡ os
+  address_back : (n m : ℕ) → HasBytes f.objects n (m + 1) → IsAlone f.objects n m →
+      address_at (frame_of f) (pos (own_size f + offset_of f.objects n + m)) ≡ OfObject n ∷ Imm (pos m) ∷ []
+  address_back n m (o, found, fits) alone =
+      let at : offset_of f.objects n ≡ o.offset = ap offset_or_zero found in
+      let x : ℕ = own_size f + offset_of f.objects n + m in
+      let objects : List ShownObject = (frame_of f).objects in
+      let over : x - own_size f ≡ o.offset + m = omega (arith, at) in
+      let stands = found_at f.objects n m o found (omega (arith, fits)) alone in
+      let near : object_near (frame_of f) (pos x) ≡ Some (object_placed o) =
+      ap (λ (q : Bool). cond q (first_object objects) (or_object (object_at objects (x - own_size f)) (first_object objects)))
+      (lt-leb (suc x) (own_size f) (omega arith))
+      ∙ ap (λ (k : ℕ). or_object (object_at objects k) (first_object objects)) over
+      ∙ ap (λ (z : Option ShownObject). or_object z (first_object objects)) stands in
+      let sum : x ≡ own_size f + o.offset + m = omega (arith, at) in
+      ap (λ (z : Option ShownObject). addressed (own_size f) z (pos x)) near
+      ∙ ap (λ (k : ℕ). OfObject o.id ∷ Imm (pos k -ℤ pos (own_size f + o.offset)) ∷ []) sum
+      ∙ ap (λ (z : ℤ). OfObject o.id ∷ Imm z ∷ []) (difference (own_size f + o.offset) m)
+      ∙ ap (λ (k : ℕ). OfObject k ∷ Imm (pos m) ∷ []) (id_found f.objects n o found)
+
+  address_same : (rd n : ℕ) (i : ℤ) (rest : List Operand) → HasBytes f.objects n (word i + 1) → IsAlone f.objects n (word i) → Added i →
+      settled_address f (Def rd ∷ OfObject n ∷ Imm i ∷ rest) ≡ Def rd ∷ OfObject n ∷ Imm i ∷ rest
+  address_same rd n i rest has alone (added m same) =
+      ap (λ (os : List Operand). Def rd ∷ os ++ rest)
+      (address_back n m (subst (λ (k : ℕ). HasBytes f.objects n (k + 1)) same has) (subst (IsAlone f.objects n) same alone))
+
+  sum_same : (os : List Operand) → fits_immediate Addi os ≡ true → LeadsInside f.objects (number_row Addi os) → settled_address f os ≡ os
   sum_same (Def rd ∷ Use b ∷ Imm i ∷ rest) form inside = refl
   sum_same (Def rd ∷ OfObject n ∷ Imm i ∷ rest) form inside =
       let bits = (and_parts (has_12_bits i) (list_all is_implicit rest) form).0 in
-      object_same (Def rd) n 1 i rest (omega arith) inside.0 inside.1 (added_in n 1 i bits inside.0)
+      address_same rd n i rest inside.0 inside.1 (added_in n 1 i bits inside.0)
   sum_same (Def rd ∷ Use b ∷ Part Lower y ∷ rest) form inside = refl
   sum_same os form inside = absurd cc
 
@@ -379,7 +401,7 @@ module _ (f : FramedFunction) (framed : IsFramed f) where
   store_same op (Use rs ∷ Use b ∷ Part Lower y ∷ rest) form objects inside = refl
   store_same op os form objects inside = absurd cc
 
-  unsettled : (op : ImmediateOp) (os : List Operand) → fits_immediate op os ≡ true → is_addi op ≡ false → settled_sum f os ≡ os
+  unsettled : (op : ImmediateOp) (os : List Operand) → fits_immediate op os ≡ true → is_addi op ≡ false → settled_address f os ≡ os
   unsettled op (Def rd ∷ Use b ∷ Imm i ∷ rest) form other = refl
   unsettled op (Def rd ∷ OfObject n ∷ Imm i ∷ rest) form other =
       let is = (and_parts (is_addi op) (is_immediate op i) (and_parts (is_addi op && is_immediate op i) (list_all is_implicit rest) form).0).0 in
@@ -387,7 +409,7 @@ module _ (f : FramedFunction) (framed : IsFramed f) where
   unsettled op (Def rd ∷ Use b ∷ Part Lower y ∷ rest) form other = refl
   unsettled op os form other = absurd cc
 
-  immediate_same : (op : ImmediateOp) (os : List Operand) → fits_immediate op os ≡ true → LeadsInside f.objects (number_row op os) → settled_sum f os ≡ os
+  immediate_same : (op : ImmediateOp) (os : List Operand) → fits_immediate op os ≡ true → LeadsInside f.objects (number_row op os) → settled_address f os ≡ os
   immediate_same Addi os form inside = sum_same os form inside
   immediate_same Slti os form inside = unsettled Slti os form refl
   immediate_same Sltiu os form inside = unsettled Sltiu os form refl

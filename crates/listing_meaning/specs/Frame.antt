@@ -1,6 +1,6 @@
 -- The frame that a listing shows. Listed instructions access the frame by x2 and an offset. These definitions map such accesses back to frame slots
 -- and stack objects.
-use Rattle.std.specs.Prelude.{ℕ, zero, suc, ◌+◌, ◌-◌, ◌^◌, max, Bool, true, false, cond, ◌&&◌, nat_eq, nat_le, nat_lt, pos, negsuc, map, List, [], ◌∷◌, ◌++◌}
+use Rattle.std.specs.Prelude.{ℕ, zero, suc, ◌+◌, ◌-◌, ◌^◌, ℤ, ◌-ℤ◌, max, Bool, true, false, cond, ◌&&◌, nat_eq, nat_le, nat_lt, pos, negsuc, map, List, [], ◌∷◌, ◌++◌}
 use Rattle.std.specs.Prelude.{Option, Some}
 use Rattle.std.specs.Prelude.{None}
 use Rattle.rv64_instr.specs.declared.op.Op.{Op}
@@ -138,10 +138,36 @@ abbrev pub accessed : ShownFrame → (is_doubleword : Bool) → ℕ → List Ope
 accessed f true n = cond (nat_lt n f.below) (Slot n ∷ Imm (pos 0) ∷ []) (by_object f n)
 accessed f false n = cond (nat_lt n f.below) (by_pointer n) (by_object f n)
 
--- The operands of the sum x2 + n, which is the new content of register rd: by x2 if rd is x2, as in frame setup and destruction, and otherwise those
--- of an access there that is of no slot.
-abbrev pub summed : ShownFrame → (rd n : ℕ) → List Operand
-summed f rd n = cond (nat_eq rd 2) (by_pointer n) (accessed f false n)
+-- the first object, if there is one
+abbrev pub first_object : List ShownObject → Option ShownObject
+first_object [] = None
+first_object (o ∷ os) = Some o
+
+-- an object, or another one where there is none
+abbrev pub or_object : Option ShownObject → (other : Option ShownObject) → Option ShownObject
+or_object None other = other
+or_object (Some o) other = Some o
+
+-- The object by which the address x2 + z is told. From the objects on it is the one that is there (`object_at`); below them, and where none is there, it is
+-- the first one.
+abbrev pub object_near : ShownFrame → ℤ → Option ShownObject
+object_near f (pos n) =
+    cond (nat_lt n f.below) (first_object f.objects) (or_object (object_at f.objects (n - f.below)) (first_object f.objects))
+object_near f (negsuc n) = first_object f.objects
+
+-- the operands of the address x2 + z by an object, or by x2 without one
+abbrev pub addressed : (below : ℕ) → Option ShownObject → ℤ → List Operand
+addressed below None z = Use 2 ∷ Imm z ∷ []
+addressed below (Some o) z = Object o.id ∷ Imm (z -ℤ pos (below + o.offset)) ∷ []
+
+-- the same by the object that tells it
+abbrev pub address_at : ShownFrame → ℤ → List Operand
+address_at f z = addressed f.below (object_near f z) z
+
+-- The operands of the sum x2 + z, which is the new content of register rd: by x2 if rd is x2, as in frame setup and destruction, and otherwise those of
+-- the address of an object.
+abbrev pub summed : ShownFrame → (rd : ℕ) → ℤ → List Operand
+summed f rd z = cond (nat_eq rd 2) (Use 2 ∷ Imm z ∷ []) (address_at f z)
 
 -- a load by x2 as a load of a slot or of an object; only LD can be of a slot
 abbrev pub raised_load : ShownFrame → LoadOp → List Operand → List Operand
@@ -153,9 +179,9 @@ abbrev pub raised_store : ShownFrame → StoreOp → List Operand → List Opera
 raised_store f op (Use rs ∷ Use (suc (suc zero)) ∷ Imm (pos n) ∷ rest) = Use rs ∷ accessed f (nat_eq (store_width op) 8) n ++ rest
 raised_store f op operands = operands
 
--- x2 + n as the address of an object, unless the result is x2
+-- x2 + z as the address of an object, unless the result is x2
 abbrev pub raised_sum : ShownFrame → List Operand → List Operand
-raised_sum f (Def rd ∷ Use (suc (suc zero)) ∷ Imm (pos n) ∷ rest) = Def rd ∷ summed f rd n ++ rest
+raised_sum f (Def rd ∷ Use (suc (suc zero)) ∷ Imm z ∷ rest) = Def rd ∷ summed f rd z ++ rest
 raised_sum f operands = operands
 
 -- register-immediate arithmetic; only ADDI forms the address of an object

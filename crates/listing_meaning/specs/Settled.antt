@@ -1,8 +1,8 @@
 -- Functions in which each address of a stack object names the object that a listing shows for it.
 --
--- An address of the form object + number may point to the end of the object, where the next object may begin, and objects of the local block may
--- overlap. The machine word is the same for each of them, and a listing shows the address relative to the last object that has its byte (`object_at`).
-use Rattle.std.specs.Prelude.{◌≡◌, ℕ, ◌+◌, pos, List, ◌∷◌, ◌++◌, map, Some, Contains, IsTrue}
+-- An address of the form object + number may point to the end of the object, where the next object may begin, or anywhere else, and objects of the local
+-- block may overlap. The machine word is the same for each of them, and a listing shows the address relative to the last object that has its byte (`object_at`).
+use Rattle.std.specs.Prelude.{◌≡◌, ℕ, ◌+◌, pos, ◌+ℤ◌, List, ◌∷◌, ◌++◌, map, Some, Contains, IsTrue}
 use Rattle.rv64_instr.specs.Instruction.{is_volatile_load}
 use Rattle.rv64_instr.specs.declared.op.Op.{Op}
 use Rattle.rv64_instr.specs.declared.op.Op.TheVariants.{Registers, Immediate, Lui, Branch, Load, Store, Copy}
@@ -22,7 +22,7 @@ use Rattle.mir_func.specs.Function.{FramedFunction}
 use Rattle.mir_func.specs.Sound.{HasBytes}
 use Rattle.mir_func.specs.Objects.{object_of, offset_of}
 use Rattle.mir_func.specs.SoundFrame.{own_size}
-use Rattle.listing_meaning.specs.Frame.{ShownObject, ShownFrame, has_byte, by_object}
+use Rattle.listing_meaning.specs.Frame.{ShownObject, ShownFrame, has_byte, by_object, address_at}
 
 -- a stack object as a listing shows it
 abbrev pub object_placed : Object → ShownObject
@@ -32,15 +32,21 @@ object_placed o = record { id = o.id; size = o.size; offset = o.offset }
 abbrev pub frame_of : FramedFunction → ShownFrame
 frame_of f = record { below = own_size f; objects = map object_placed f.objects }
 
--- operands with an address of the form object + number, relative to the object that a listing shows for it
+-- operands of an access of the form object + number, relative to the object that a listing shows for it
 abbrev pub settled_sum : FramedFunction → List Operand → List Operand
 settled_sum f (register ∷ OfObject n ∷ Imm (pos i) ∷ rest) = register ∷ by_object (frame_of f) (own_size f + offset_of f.objects n + i) ++ rest
 settled_sum f operands = operands
 
+-- operands of an address of that form, which may lie outside of the object
+abbrev pub settled_address : FramedFunction → List Operand → List Operand
+settled_address f (register ∷ OfObject n ∷ Imm i ∷ rest) =
+    register ∷ address_at (frame_of f) (pos (own_size f + offset_of f.objects n) +ℤ i) ++ rest
+settled_address f operands = operands
+
 -- the operands of an instruction: addresses, loads and stores of objects are changed so
 abbrev pub settled_operands : FramedFunction → Op → List Operand → List Operand
 settled_operands f (Registers op) operands = operands
-settled_operands f (Immediate op) operands = settled_sum f operands
+settled_operands f (Immediate op) operands = settled_address f operands
 settled_operands f Lui operands = operands
 settled_operands f (Branch op) operands = operands
 settled_operands f (Load op) operands = settled_sum f operands

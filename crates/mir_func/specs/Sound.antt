@@ -122,12 +122,12 @@ BaseHasBytes objects (PointedBy r) bytes = Unit {0}
 BaseHasBytes objects (ObjectAt n) bytes = HasBytes objects n bytes
 BaseHasBytes objects (BesidePart r y) bytes = Unit {0}
 
--- an access by a stack object stays within it, and an address that is computed from one is at most that of its end
+-- an access by a stack object stays within it; an address that is computed from one may lie anywhere, and the object is there
 abbrev pub AccessIn : List Object → Access → Type 0
 AccessIn objects NoAccess = Unit {0}
 AccessIn objects (SlotAccess n) = Unit {0}
 AccessIn objects (MemoryAccess base offset width) = BaseHasBytes objects base (offset + width)
-AccessIn objects (ObjectAddress n offset) = HasBytes objects n offset
+AccessIn objects (ObjectAddress n offset) = HasBytes objects n 0
 
 -- a row's access by a stack object stays within it
 abbrev pub ObjectIn : List Object → Row → Type 0

@@ -1,5 +1,5 @@
 -- Invariants of every function with its frame (RISC-V ELF psABI, "Integer Calling Convention").
-use Rattle.std.specs.Prelude.{◌+◌, Contains, length, ◌≡◌, ℕ, zero, suc, ℤ, pos, ◌-ℤ◌, ◌-◌, ◌%◌, ◌<◌, ◌≤◌, List, [], ◌∷◌, ◌++◌, map, Option, Some, None, All}
+use Rattle.std.specs.Prelude.{◌+◌, Contains, length, ◌≡◌, ℕ, zero, suc, ℤ, pos, ◌-ℤ◌, ◌-◌, ◌%◌, ◌^◌, ◌<◌, ◌≤◌, List, [], ◌∷◌, ◌++◌, map, Option, Some, None, All}
 use Rattle.std.specs.Prelude.{true, false}
 use Rattle.std.specs.List.Sorted.{IsStrictlyIncreasing}
 use Rattle.rv64_instr.specs.declared.op.Op.TheVariants.{Immediate, Load, Store}
@@ -13,17 +13,20 @@ use Rattle.rv64_instr.specs.declared.operand.Operand.TheVariants.{Mask, Outgoing
 use Rattle.rv64_instr.specs.declared.place.Place.{Place}
 use Rattle.rv64_instr.specs.declared.place.Place.TheVariants.{Register, Slot as InSlot, Const}
 use Rattle.rv64_instr.specs.Instruction.{Instruction}
+use Rattle.rv64_instr.specs.Row.{row_of}
+use Rattle.rv64_instr.specs.View.{Access, NoAccess, SlotAccess, MemoryAccess, ObjectAddress, access_of}
 use Rattle.mir_func.specs.declared.block.Block.{Block}
 use Rattle.mir_func.specs.declared.framed.SavedRegister.{SavedRegister}
 use Rattle.mir_func.specs.declared.item.Item.{Item}
 use Rattle.mir_func.specs.declared.item.ItemKind.{ItemKind}
 use Rattle.mir_func.specs.declared.item.ItemKind.TheVariants.{Code, Mark, Phi}
+use Rattle.mir_func.specs.declared.object.Object.{Object as StackObject}
 use Rattle.mir_func.specs.declared.variable.MarkValue.{MarkValue}
 use Rattle.mir_func.specs.declared.variable.MarkValue.TheVariants.{Nothing, Constant, At, Pair}
 use Rattle.mir_func.specs.Function.{FramedFunction}
 use Rattle.mir_func.specs.Exits.{leads_back}
 use Rattle.mir_func.specs.Limits.{MAX_FRAME, MAX_SLOTS}
-use Rattle.mir_func.specs.Objects.{AreLaid, area_of, extent_of}
+use Rattle.mir_func.specs.Objects.{AreLaid, area_of, extent_of, offset_of}
 use Rattle.mir_func.specs.Sound.{AreApart, ids_of, AllItems, TargetsIn, SlotsIn, KindPassesFirst, ObjectsIn, IsSoundObject, LeavesPointer, EndsWell, LastCloses}
 
 -- the registers that a frame may save: the return address and the callee-saved registers (RISC-V ELF psABI, "Integer
@@ -135,6 +138,20 @@ abbrev pub AreDoublewords : (offset : ℕ) → List ℕ → Type 0
 AreDoublewords o [] = Unit {0}
 AreDoublewords o (n ∷ ns) = (n ≡ o) × AreDoublewords (o + 8) ns
 
+-- the address of an object that code forms lies at most MAX_FRAME bytes above x2, where the objects lie above so many bytes; one below its object lies lower
+-- than that
+abbrev pub AccessReaches : (own : ℕ) → List StackObject → Access → Type 0
+AccessReaches own objects NoAccess = Unit {0}
+AccessReaches own objects (SlotAccess n) = Unit {0}
+AccessReaches own objects (MemoryAccess base offset width) = Unit {0}
+AccessReaches own objects (ObjectAddress n offset) = offset < 2 ^ 63 → own + offset_of objects n + offset ≤ MAX_FRAME
+
+-- the same of an item
+abbrev pub KindReaches : (own : ℕ) → List StackObject → ItemKind → Type 0
+KindReaches own objects (Code i k) = AccessReaches own objects (access_of (row_of i))
+KindReaches own objects (Mark v m) = Unit {0}
+KindReaches own objects (Phi p k) = Unit {0}
+
 -- the invariant of every function with its frame
 pub record IsFramed (f : FramedFunction) : Type 0 where
   pub aligned : f.size % 16 ≡ 0
@@ -151,6 +168,7 @@ pub record IsFramed (f : FramedFunction) : Type 0 where
   pub slots : AllItems (λ i. SlotsIn (slot_offsets f) i.kind) f.blocks
   pub passed : AllItems (λ i. KindPassesFirst (map (λ s. s.offset) f.offsets) i.kind) f.blocks
   pub objects : AllItems (λ i. ObjectsIn f.objects i.kind) f.blocks
+  pub addresses : AllItems (λ i. KindReaches (own_size f) f.objects i.kind) f.blocks
   pub saved : IsStrictlyIncreasing (map (λ s. s.register) f.saved)
   pub saved_kept : All (λ s. Contains SAVED s.register) f.saved
   pub physical : AllItems (λ i. HasPhysical i.kind) f.blocks

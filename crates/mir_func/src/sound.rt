@@ -257,7 +257,7 @@ fn begin_with(slots: &[u32], operands: &[Operand]) -> bool
     true
 }
 
-/// Whether there is a stack object that code names, with the bytes that it accesses or counts past.
+/// Whether there is a stack object that code names, with the bytes that it accesses.
 fn is_object_there(objects: &ObjectSizes, kind: &ItemKind) -> bool
     ensures { IsTrue result ↔ ObjectsIn objects.now kind.now }
 {
@@ -271,7 +271,7 @@ fn is_row_object_there(objects: &ObjectSizes, decoded: &Decoded) -> bool
     ensures { (row : Row) → Shows decoded.now row → (IsTrue result ↔ ObjectIn objects.now row) }
 {
     match *decoded {
-        Decoded::Addresses(_, n, offset) => objects.has_bytes(n, offset, 0),
+        Decoded::Addresses(_, n, _) => objects.has_bytes(n, 0, 0),
         Decoded::Loads(_, op, Base::ObjectAt(n), offset) => {
             objects.has_bytes(n, offset, load_width(op) as u64)
         }

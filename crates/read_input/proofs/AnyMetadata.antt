@@ -285,7 +285,7 @@ body_of-unmarked linked meta other lines read whole none =
 
 -- the function of a document with these declarations and this body, which close as it
 pub parses_of : (meta : Maps) (doc : FunctionDocument) (declared : Declarations) (body : Body) (p : Parsed) → declarations_of doc ≡ Ok declared →
-    body_of doc.linked meta doc.body ≡ Ok body → Closes doc.closed declared body (Ok p) → Parses meta doc (Ok p)
+    body_of doc.linked meta doc.body ≡ Ok body → Closes doc.linked doc.closed declared body (Ok p) → Parses meta doc (Ok p)
 parses_of meta doc declared body p declares reads closes =
-    subst (λ (d : Result Declarations Refusal). ParsesParts doc.closed d (body_of doc.linked meta doc.body) (Ok p)) (sym declares)
-    (subst (λ (b : Result Body Refusal). ParsesParts doc.closed (Ok declared) b (Ok p)) (sym reads) closes)
+    subst (λ (d : Result Declarations Refusal). ParsesParts doc.linked doc.closed d (body_of doc.linked meta doc.body) (Ok p)) (sym declares)
+    (subst (λ (b : Result Body Refusal). ParsesParts doc.linked doc.closed (Ok declared) b (Ok p)) (sym reads) closes)

@@ -28,7 +28,7 @@ pub fn parse_unmarked(
 {
     match declared(alloc, document)? {
         Some(declared) => match unmarked(alloc, document.linked, document.body.as_slice())? {
-            Some(body) => closed(alloc, document.closed, declared, body),
+            Some(body) => closed(alloc, document.linked, document.closed, declared, body),
             None => Ok(None),
         },
         None => Ok(None),
@@ -67,14 +67,15 @@ fn unmarked(alloc: Global, linked: bool, lines: &[Line]) -> Result<Option<Body>,
 /// The function with these declarations and this body, which close at a line; `None` if it is refused there.
 fn closed(
     alloc: Global,
+    linked: bool,
     line: u32,
     declared: Declarations,
     body: Body,
 ) -> Result<Option<Parsed>, AllocError>
     requires { AreEntries declared.stack }
-    ensures { IfOk result (λ read. IfSome read (IsReadAnyhow line declared body)) }
+    ensures { IfOk result (λ read. IfSome read (IsReadAnyhow linked line declared body)) }
 {
-    match close(alloc, line, declared, body) {
+    match close(alloc, linked, line, declared, body) {
         Ok(parsed) => Ok(Some(parsed)),
         Err(ParseError::Refused(_)) => Ok(None),
         Err(ParseError::Memory) => Err(AllocError),

@@ -1,6 +1,6 @@
 -- A function that breaks no other rule, and whose blocks end well, is sound.
 use Rattle.std.proofs.Common.{◌≡◌, ℕ, ◌≤◌, zero, suc, ◌+◌, ◌<◌, Bool, true, false, cond, leb, List, [], ◌∷◌, ◌++◌, map, All, Option, Some, None}
-use Rattle.std.proofs.Common.{refl, sym, ap, subst, ◌∙◌, nat_eq}
+use Rattle.std.proofs.Common.{refl, sym, ap, subst, ◌∙◌, nat_eq, arith}
 use Rattle.std.specs.Prelude.{Contains}
 use Rattle.std.specs.List.{slice_get, list_all}
 use Rattle.std.specs.Option.{option_map_or}
@@ -307,21 +307,22 @@ base_in objects (PointedBy r) bytes e = tt
 base_in objects (ObjectAt n) bytes e = bytes_in objects n bytes (object_of objects n) refl e
 base_in objects (BesidePart r y) bytes e = tt
 
-object_in : (objects : List Object) (r : Row) → row_stays objects r ≡ true → ObjectIn objects r
-object_in objects (Addresses rd n offset) e = bytes_in objects n offset (object_of objects n) refl e
-object_in objects (Loads rd op base offset) e = base_in objects base (offset + load_width op) e
-object_in objects (Stores op rs base offset) e = base_in objects base (offset + store_width op) e
-object_in objects _ e = tt
+object_in : (linked : Bool) (objects : List Object) (r : Row) → row_stays linked objects r ≡ true → ObjectIn objects r
+object_in linked objects (Addresses rd n offset) e =
+    let is = bytes_in objects n (cond linked 0 offset) (object_of objects n) refl e in (is.0, is.1, omega arith)
+object_in linked objects (Loads rd op base offset) e = base_in objects base (offset + load_width op) e
+object_in linked objects (Stores op rs base offset) e = base_in objects base (offset + store_width op) e
+object_in linked objects _ e = tt
 
-objects_in : (objects : List Object) (kind : ItemKind) → kind_stays objects kind ≡ true → ObjectsIn objects kind
-objects_in objects (Code i k) e = object_in objects (row_of i) e
-objects_in objects (Mark v m) e = tt
-objects_in objects (Phi p k) e = tt
+objects_in : (linked : Bool) (objects : List Object) (kind : ItemKind) → kind_stays linked objects kind ≡ true → ObjectsIn objects kind
+objects_in linked objects (Code i k) e = object_in linked objects (row_of i) e
+objects_in linked objects (Mark v m) e = tt
+objects_in linked objects (Phi p k) e = tt
 
-pub all_objects_in : (objects : List Object) (bs : List Block) → blocks_stay objects bs ≡ true → AllItems (λ i. ObjectsIn objects i.kind) bs
-all_objects_in objects bs e = All-weaker (λ b. block_stays objects b ≡ true) (λ (b : Block). All (λ i. ObjectsIn objects i.kind) b.items)
-    (λ b stays. All-weaker (λ i. kind_stays objects i.kind ≡ true) (λ i. ObjectsIn objects i.kind) (λ i is. objects_in objects i.kind is) b.items
-    (all_true (λ (i : Item). kind_stays objects i.kind) b.items stays)) bs (all_true (block_stays objects) bs e)
+pub all_objects_in : (linked : Bool) (objects : List Object) (bs : List Block) → blocks_stay linked objects bs ≡ true → AllItems (λ i. ObjectsIn objects i.kind) bs
+all_objects_in linked objects bs e = All-weaker (λ b. block_stays linked objects b ≡ true) (λ (b : Block). All (λ i. ObjectsIn objects i.kind) b.items)
+    (λ b stays. All-weaker (λ i. kind_stays linked objects i.kind ≡ true) (λ i. ObjectsIn objects i.kind) (λ i is. objects_in linked objects i.kind is) b.items
+    (all_true (λ (i : Item). kind_stays linked objects i.kind) b.items stays)) bs (all_true (block_stays linked objects) bs e)
 
 -- ---- numbers
 

@@ -82,19 +82,19 @@ declared_entries doc (Err r) e = tt
 
 -- ---- no cause
 
-record ClosesAll (d : Declarations) (body : Body) : Type 0 where
+record ClosesAll (linked : Bool) (d : Declarations) (body : Body) : Type 0 where
   branches : blocks_go_to body.ids (blocks_of body) ≡ true
   entries : all_met (known_ids d) body.entries ≡ true
-  accesses : stays (laid_out body.objects d.stack d.fixed (blocks_of body)) ≡ true
+  accesses : stays linked (laid_out body.objects d.stack d.fixed (blocks_of body)) ≡ true
 
 parts_some : (b : Bool) (parts : Parts) → is_some (cond b (Some parts) None) ≡ true → b ≡ true
 parts_some true parts e = refl
 parts_some false parts e = absurd cc
 
-closes_all : (d : Declarations) (body : Body) → closing_cause d body ≡ None → ClosesAll d body
-closes_all d body none = by (blocks_go_to body.ids (blocks_of body)) (all_met (known_ids d) body.entries) refl refl none where
+closes_all : (linked : Bool) (d : Declarations) (body : Body) → closing_cause linked d body ≡ None → ClosesAll linked d body
+closes_all linked d body none = by (blocks_go_to body.ids (blocks_of body)) (all_met (known_ids d) body.entries) refl refl none where
   parts : Option Parts
-  parts = parts_of body.objects d.stack d.fixed (blocks_of body)
+  parts = parts_of linked body.objects d.stack d.fixed (blocks_of body)
 
   known : Bool
   known = are_known (constant_ids d.pool) (blocks_of body)
@@ -104,11 +104,11 @@ closes_all d body none = by (blocks_go_to body.ids (blocks_of body)) (all_met (k
   made false is e = absurd cc
 
   by : (a b : Bool) → blocks_go_to body.ids (blocks_of body) ≡ a → all_met (known_ids d) body.entries ≡ b →
-      cond a (cond (b && (known && is_some parts)) None (Some StackObject)) (Some UnknownBlock) ≡ None → ClosesAll d body
+      cond a (cond (b && (known && is_some parts)) None (Some StackObject)) (Some UnknownBlock) ≡ None → ClosesAll linked d body
   by true true p q e = record {
     branches = p;
     entries = q;
-    accesses = parts_some (stays (laid_out body.objects d.stack d.fixed (blocks_of body))) (laid_out body.objects d.stack d.fixed (blocks_of body)) (made
+    accesses = parts_some (stays linked (laid_out body.objects d.stack d.fixed (blocks_of body))) (laid_out body.objects d.stack d.fixed (blocks_of body)) (made
         (known && is_some parts) refl e);
   }
   by true false p q e = absurd cc
@@ -117,7 +117,7 @@ closes_all d body none = by (blocks_go_to body.ids (blocks_of body)) (all_met (k
 -- ---- functions
 
 module _ (linked : Bool) (meta : Maps) (d : Declarations) (body : Body) (is : IsReadBody (EndsFromLine linked meta body) body) (stack : IsReadStack d.stack)
-    (fixed : IsReadFixed (MAX_SLOTS - length d.stack) d.fixed) (closes : ClosesAll d body) where
+    (fixed : IsReadFixed (MAX_SLOTS - length d.stack) d.fixed) (closes : ClosesAll linked d body) where
   abbrev ids : List ℕ
   ids = ids_of_objects body.objects d.stack
 
@@ -189,7 +189,7 @@ module _ (linked : Bool) (meta : Maps) (d : Declarations) (body : Body) (is : Is
         (λ i g. slots_as body.objects d.stack body.entries all i.kind g.item.form g.item.named);
     passed = each_as (λ i. KindPassesFirst (slots_of body.objects d.stack) i.kind)
         (λ i g. first_as body.objects d.stack body.entries all i.kind g.item.form g.item.named);
-    objects = all_objects_in (all_objects body.objects d.stack d.fixed) (blocks_as ids bs) closes.accesses;
+    objects = all_objects_in linked (all_objects body.objects d.stack d.fixed) (blocks_as ids bs) closes.accesses;
     pointer = each_as (λ i. LeavesPointer i.kind) (λ i g. pointer_as body.objects d.stack body.entries all i.kind g.item.form g.item.pointer);
     numbers = once_as ids bs is.once;
     origins = All-weaker (IsReadBlock Any) (λ (b : Block). All (λ i. OriginIn b i.origin) b.items) (λ b r. origins_in Any b r) (blocks_as ids bs) read_blocks;
@@ -198,29 +198,29 @@ module _ (linked : Bool) (meta : Maps) (d : Declarations) (body : Body) (is : Is
   }
 
 -- what a document says that was read, where nothing else is wrong at its close
-module _ (meta : Maps) (doc : FunctionDocument) (d : Declarations) (body : Body) (declared : declarations_of doc ≡ Ok d)
-    (read : body_of doc.linked meta doc.body ≡ Ok body)
-    (none : closing_cause d body ≡ None) where
+module _ (linked : Bool) (meta : Maps) (doc : FunctionDocument) (d : Declarations) (body : Body) (declared : declarations_of doc ≡ Ok d)
+    (read : body_of linked meta doc.body ≡ Ok body)
+    (none : closing_cause linked d body ≡ None) where
   pub sound_if_ends_well : EndWell (function_of d body).blocks → IsSound (function_of d body)
   sound_if_ends_well =
-      function_sound doc.linked meta d body (body_reads doc.linked meta doc.body body read) (declared_stack doc d declared) (declared_fixed doc d declared)
-      (closes_all d body none)
+      function_sound linked meta d body (body_reads linked meta doc.body body read) (declared_stack doc d declared) (declared_fixed doc d declared)
+      (closes_all linked d body none)
 
   -- its function isn't sound: so its blocks don't end well
-  pub ends_badly : (line : ℕ) → (IsSound (function_of d body) → ⊥) → Closes line d body (Err (errors.Refused (record { line = line; kind = BlockEnd })))
+  pub ends_badly : (line : ℕ) → (IsSound (function_of d body) → ⊥) → Closes linked line d body (Err (errors.Refused (record { line = line; kind = BlockEnd })))
   ends_badly line unsound = subst (λ (c : Option RefusalKind). ClosesWith line (record { line = line; kind = BlockEnd }) c (function_of d body)) (sym none)
       (refl, λ ends. unsound (sound_if_ends_well ends))
 
 -- its function is sound
-pub ends_well : (line : ℕ) (d : Declarations) (body : Body) (p : Parsed) → closing_cause d body ≡ None → IsSound (function_of d body) →
-    p.func ≡ function_of d body → p.subs ≡ d.substitutions → p.exposure ≡ d.exposure → p.pool ≡ d.pool → Closes line d body (Ok p)
-ends_well line d body p none sound func subs exposes pool = (none, func, subs, (sound.ends, sound.last), exposes, pool)
+pub ends_well : (linked : Bool) (line : ℕ) (d : Declarations) (body : Body) (p : Parsed) → closing_cause linked d body ≡ None → IsSound (function_of d body) →
+    p.func ≡ function_of d body → p.subs ≡ d.substitutions → p.exposure ≡ d.exposure → p.pool ≡ d.pool → Closes linked line d body (Ok p)
+ends_well linked line d body p none sound func subs exposes pool = (none, func, subs, (sound.ends, sound.last), exposes, pool)
 
 -- ---- the steps of a close
 
 -- what is known where nothing is wrong but how blocks end
-pub record IsLaidOut (d : Declarations) (body : Body) (p : Parts) : Type 0 where
-  pub none : closing_cause d body ≡ None
+pub record IsLaidOut (linked : Bool) (d : Declarations) (body : Body) (p : Parts) : Type 0 where
+  pub none : closing_cause linked d body ≡ None
   pub parts : p ≡ laid_out body.objects d.stack d.fixed (blocks_of body)
 
 parts_are : (b : Bool) (whole p : Parts) → ◌≡◌ {A = Option Parts} (cond b (Some whole) None) (Some p) → (b ≡ true) × (p ≡ whole)
@@ -233,18 +233,18 @@ cause_none false b c p q r = absurd cc
 cause_none true false c p q r = absurd cc
 cause_none true true false p q r = absurd cc
 
-pub laid_by_parts : (d : Declarations) (body : Body) (blocks : List Block) (known : List ℕ) (made : Option Parts) (p : Parts) → blocks ≡ blocks_of body →
+pub laid_by_parts : (linked : Bool) (d : Declarations) (body : Body) (blocks : List Block) (known : List ℕ) (made : Option Parts) (p : Parts) → blocks ≡ blocks_of body →
     blocks_go_to body.ids blocks ≡ true → known ≡ known_ids d → all_met known body.entries ≡ true → are_known (constant_ids d.pool) blocks ≡ true →
-    made ≡ parts_of body.objects d.stack d.fixed blocks → made ≡ Some p → IsLaidOut d body p
-laid_by_parts d body blocks known made p same goes entries met pool parts is =
-    let here : parts_of body.objects d.stack d.fixed (blocks_of body) ≡ Some p =
-    ap (parts_of body.objects d.stack d.fixed) (sym same) ∙ sym parts ∙ is in
-    let whole = parts_are (stays (laid_out body.objects d.stack d.fixed (blocks_of body))) (laid_out body.objects d.stack d.fixed (blocks_of body)) p here in
+    made ≡ parts_of linked body.objects d.stack d.fixed blocks → made ≡ Some p → IsLaidOut linked d body p
+laid_by_parts linked d body blocks known made p same goes entries met pool parts is =
+    let here : parts_of linked body.objects d.stack d.fixed (blocks_of body) ≡ Some p =
+    ap (parts_of linked body.objects d.stack d.fixed) (sym same) ∙ sym parts ∙ is in
+    let whole = parts_are (stays linked (laid_out body.objects d.stack d.fixed (blocks_of body))) (laid_out body.objects d.stack d.fixed (blocks_of body)) p here in
     record {
       none = cause_none (blocks_go_to body.ids (blocks_of body)) (all_met (known_ids d) body.entries)
-          (are_known (constant_ids d.pool) (blocks_of body) && is_some (parts_of body.objects d.stack d.fixed (blocks_of body)))
+          (are_known (constant_ids d.pool) (blocks_of body) && is_some (parts_of linked body.objects d.stack d.fixed (blocks_of body)))
           (ap (blocks_go_to body.ids) (sym same) ∙ goes) (ap (λ (l : List ℕ). all_met l body.entries) (sym entries) ∙ met)
-          (and_from (are_known (constant_ids d.pool) (blocks_of body)) (is_some (parts_of body.objects d.stack d.fixed (blocks_of body)))
+          (and_from (are_known (constant_ids d.pool) (blocks_of body)) (is_some (parts_of linked body.objects d.stack d.fixed (blocks_of body)))
           (ap (are_known (constant_ids d.pool)) (sym same) ∙ pool) (ap (λ (o : Option Parts). is_some o) here));
       parts = whole.1;
     }
@@ -253,18 +253,18 @@ laid_by_parts d body blocks known made p same goes entries met pool parts is =
 abbrev pub made_of : List ℕ → Parts → Function
 made_of name p = record { name = name; slots = p.slots; objects = p.objects; blocks = p.blocks }
 
-made_is : (d : Declarations) (body : Body) (p : Parts) → IsLaidOut d body p → made_of d.name p ≡ function_of d body
-made_is d body p is = ap (made_of d.name) is.parts
+made_is : (linked : Bool) (d : Declarations) (body : Body) (p : Parts) → IsLaidOut linked d body p → made_of d.name p ≡ function_of d body
+made_is linked d body p is = ap (made_of d.name) is.parts
 
-pub close_well : (line : ℕ) (d : Declarations) (body : Body) (p : Parts) (f : Function) → IsLaidOut d body p → f ≡ made_of d.name p → IsSound f →
-    Closes line d body (Ok (record { func = f; subs = d.substitutions; pool = d.pool; exposure = d.exposure }))
-close_well line d body p f is made sound =
-    let same = made ∙ made_is d body p is in
-    ends_well line d body (record { func = f; subs = d.substitutions; pool = d.pool; exposure = d.exposure }) is.none (subst IsSound same sound) same refl refl
+pub close_well : (linked : Bool) (line : ℕ) (d : Declarations) (body : Body) (p : Parts) (f : Function) → IsLaidOut linked d body p → f ≡ made_of d.name p → IsSound f →
+    Closes linked line d body (Ok (record { func = f; subs = d.substitutions; pool = d.pool; exposure = d.exposure }))
+close_well linked line d body p f is made sound =
+    let same = made ∙ made_is linked d body p is in
+    ends_well linked line d body (record { func = f; subs = d.substitutions; pool = d.pool; exposure = d.exposure }) is.none (subst IsSound same sound) same refl refl
     refl
 
-pub close_badly : (meta : Maps) (doc : FunctionDocument) (line : ℕ) (d : Declarations) (body : Body) (p : Parts) → declarations_of doc ≡ Ok d →
-    body_of doc.linked meta doc.body ≡ Ok body → IsLaidOut d body p → (IsSound (made_of d.name p) → ⊥) →
-    Closes line d body (Err (errors.Refused (record { line = line; kind = BlockEnd })))
-close_badly meta doc line d body p declared read is unsound =
-    ends_badly meta doc d body declared read is.none line (λ sound. unsound (subst IsSound (sym (made_is d body p is)) sound))
+pub close_badly : (linked : Bool) (meta : Maps) (doc : FunctionDocument) (line : ℕ) (d : Declarations) (body : Body) (p : Parts) → declarations_of doc ≡ Ok d →
+    body_of linked meta doc.body ≡ Ok body → IsLaidOut linked d body p → (IsSound (made_of d.name p) → ⊥) →
+    Closes linked line d body (Err (errors.Refused (record { line = line; kind = BlockEnd })))
+close_badly linked meta doc line d body p declared read is unsound =
+    ends_badly linked meta doc d body declared read is.none line (λ sound. unsound (subst IsSound (sym (made_is linked d body p is)) sound))

@@ -72,20 +72,20 @@ laid_out named es fixed blocks = record {
 }
 
 -- each access of a stack object is within its object
-abbrev pub stays : Parts → Bool
-stays parts = blocks_stay parts.objects parts.blocks
+abbrev pub stays : (linked : Bool) → Parts → Bool
+stays linked parts = blocks_stay linked parts.objects parts.blocks
 
 -- the slots, objects and blocks of a function, if each access of a stack object is within it
-abbrev pub parts_of : List ℕ → List StackEntry → List FixedEntry → List Block → Option Parts
-parts_of named es fixed blocks = if stays (laid_out named es fixed blocks) then Some (laid_out named es fixed blocks) else None
+abbrev pub parts_of : (linked : Bool) → List ℕ → List StackEntry → List FixedEntry → List Block → Option Parts
+parts_of linked named es fixed blocks = if stays linked (laid_out named es fixed blocks) then Some (laid_out named es fixed blocks) else None
 
 -- Why a function is refused at its closing line: a branch to a block that it doesn't have, else a `%stack.N`, `%fixed-stack.N` or `%const.N` that isn't
 -- declared or an access outside its object.
-abbrev pub closing_cause : Declarations → Body → Option RefusalKind
-closing_cause d body =
+abbrev pub closing_cause : (linked : Bool) → Declarations → Body → Option RefusalKind
+closing_cause linked d body =
     if blocks_go_to body.ids (blocks_of body)
     then (if all_met (known_ids d) body.entries && (are_known (constant_ids d.pool) (blocks_of body) &&
-    is_some (parts_of body.objects d.stack d.fixed (blocks_of body))) then None else Some StackObject)
+    is_some (parts_of linked body.objects d.stack d.fixed (blocks_of body))) then None else Some StackObject)
     else Some UnknownBlock
 
 -- the function with these declarations and this body
@@ -108,11 +108,11 @@ ClosesWith line r (Some cause) f = r ≡ record { line = line; kind = cause }
 ClosesWith line r None f = (r ≡ record { line = line; kind = BlockEnd }) × (EndWell f.blocks → ⊥)
 
 -- What a call returns for declarations and a body that close at this line. Nothing is claimed if memory ran out.
-abbrev pub Closes : ℕ → Declarations → Body → Result Parsed ParseError → Type 0
-Closes line d body (Ok p) = (closing_cause d body ≡ None) × (p.func ≡ function_of d body) × (p.subs ≡ d.substitutions) × EndWell (function_of d body).blocks
+abbrev pub Closes : (linked : Bool) → ℕ → Declarations → Body → Result Parsed ParseError → Type 0
+Closes linked line d body (Ok p) = (closing_cause linked d body ≡ None) × (p.func ≡ function_of d body) × (p.subs ≡ d.substitutions) × EndWell (function_of d body).blocks
     × (p.exposure ≡ d.exposure) × (p.pool ≡ d.pool)
-Closes line d body (Err errors.Memory) = Unit {0}
-Closes line d body (Err (errors.Refused r)) = ClosesWith line r (closing_cause d body) (function_of d body)
+Closes linked line d body (Err errors.Memory) = Unit {0}
+Closes linked line d body (Err (errors.Refused r)) = ClosesWith line r (closing_cause linked d body) (function_of d body)
 
 -- what a call returns for a function with this refusal: it, or that memory ran out
 abbrev pub IsRefused : Refusal → Result Parsed ParseError → Type 0
@@ -121,13 +121,13 @@ IsRefused r (Err errors.Memory) = Unit {0}
 IsRefused r (Err (errors.Refused s)) = s ≡ r
 
 -- what a call returns for declarations and a body, each read or refused: if any is refused, the first refusal
-abbrev pub ParsesParts : ℕ → Result Declarations Refusal → Result Body Refusal → Result Parsed ParseError → Type 0
-ParsesParts line (Ok d) (Ok body) answer = Closes line d body answer
-ParsesParts line (Err r) (Ok body) answer = IsRefused r answer
-ParsesParts line (Ok d) (Err s) answer = IsRefused s answer
-ParsesParts line (Err r) (Err s) answer = IsRefused (if comes_before s r then s else r) answer
+abbrev pub ParsesParts : (linked : Bool) → ℕ → Result Declarations Refusal → Result Body Refusal → Result Parsed ParseError → Type 0
+ParsesParts linked line (Ok d) (Ok body) answer = Closes linked line d body answer
+ParsesParts linked line (Err r) (Ok body) answer = IsRefused r answer
+ParsesParts linked line (Ok d) (Err s) answer = IsRefused s answer
+ParsesParts linked line (Err r) (Err s) answer = IsRefused (if comes_before s r then s else r) answer
 
 -- What a call returns for a function's document, given the metadata of its text: the function with its substitutions, the constants of its pool and what it
 -- exposes, or its first refusal. That is the first of its declarations and body lines, and if there is none, that of the closing line.
 abbrev pub Parses : Maps → FunctionDocument → Result Parsed ParseError → Type 0
-Parses meta doc answer = ParsesParts doc.closed (declarations_of doc) (body_of doc.linked meta doc.body) answer
+Parses meta doc answer = ParsesParts doc.linked doc.closed (declarations_of doc) (body_of doc.linked meta doc.body) answer

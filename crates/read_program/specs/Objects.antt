@@ -85,27 +85,27 @@ base_has_bytes objects (PointedBy r) bytes = true
 base_has_bytes objects (ObjectAt n) bytes = has_bytes objects n bytes
 base_has_bytes objects (BesidePart r y) bytes = true
 
--- whether an access is within its object. An address computed in an object may be at most its end.
-abbrev pub access_stays : List func.Object → Access → Bool
-access_stays objects NoAccess = true
-access_stays objects (SlotAccess n) = true
-access_stays objects (MemoryAccess base offset width) = base_has_bytes objects base (offset + width)
-access_stays objects (ObjectAddress n offset) = has_bytes objects n offset
+-- Whether an access is within its object. An address computed in an object may be at most its end, and any address in the linked language.
+abbrev pub access_stays : (linked : Bool) → List func.Object → Access → Bool
+access_stays linked objects NoAccess = true
+access_stays linked objects (SlotAccess n) = true
+access_stays linked objects (MemoryAccess base offset width) = base_has_bytes objects base (offset + width)
+access_stays linked objects (ObjectAddress n offset) = has_bytes objects n (if linked then 0 else offset)
 
 -- whether an instruction's access is within its object
-abbrev pub row_stays : List func.Object → Row → Bool
-row_stays objects row = access_stays objects (access_of row)
+abbrev pub row_stays : (linked : Bool) → List func.Object → Row → Bool
+row_stays linked objects row = access_stays linked objects (access_of row)
 
 -- whether the access of an item, if it has one, is within its object
-abbrev pub kind_stays : List func.Object → ItemKind → Bool
-kind_stays objects (Code i k) = row_stays objects (row_of i)
-kind_stays objects (Mark v m) = true
-kind_stays objects (Phi p k) = true
+abbrev pub kind_stays : (linked : Bool) → List func.Object → ItemKind → Bool
+kind_stays linked objects (Code i k) = row_stays linked objects (row_of i)
+kind_stays linked objects (Mark v m) = true
+kind_stays linked objects (Phi p k) = true
 
 -- whether each access of a block is within its object
-abbrev pub block_stays : List func.Object → Block → Bool
-block_stays objects b = list_all (λ i. kind_stays objects i.kind) b.items
+abbrev pub block_stays : (linked : Bool) → List func.Object → Block → Bool
+block_stays linked objects b = list_all (λ i. kind_stays linked objects i.kind) b.items
 
 -- whether each access of these blocks is within its object
-abbrev pub blocks_stay : List func.Object → List Block → Bool
-blocks_stay objects blocks = list_all (block_stays objects) blocks
+abbrev pub blocks_stay : (linked : Bool) → List func.Object → List Block → Bool
+blocks_stay linked objects blocks = list_all (block_stays linked objects) blocks

@@ -117,18 +117,19 @@ fn and_last(mut before: Blocks, last: Option<Block>) -> Result<Blocks, AllocErro
 /// names as objects. `None` if an access is outside its object.
 fn parts_of(
     alloc: Global,
+    linked: bool,
     named: &FirstUseOrder,
     entries: &[StackEntry],
     fixed: &[FixedEntry],
     blocks: &[Block],
 ) -> Result<Option<Parts>, AllocError>
     requires { AreEntries entries.now }
-    ensures { IfOk result (λ parts. parts ≡ parts_of named.now entries.now fixed.now blocks.now) }
+    ensures { IfOk result (λ parts. parts ≡ parts_of linked named.now entries.now fixed.now blocks.now) }
 {
     let objects = all_objects(alloc, named, entries, fixed)?;
     let ids = object_ids(alloc, named, entries)?;
     let blocks = blocks_as(alloc, &ids, blocks)?;
-    if !blocks_stay(objects.as_slice(), blocks.as_slice()) {
+    if !blocks_stay(linked, objects.as_slice(), blocks.as_slice()) {
         return Ok(None);
     }
     let slots = slots(alloc, named, entries)?;
@@ -183,17 +184,18 @@ fn function(alloc: Global, name: Name, parts: Parts) -> Result<Option<Func>, All
     }
 }
 
-/// The function with these declarations and this body, which close at a line. It may be refused there as
+/// The function with these declarations and this body, in this language, which close at a line. It may be refused there as
 /// `UnknownBlock`, `StackObject` or `BlockEnd`.
 pub fn close(
     alloc: Global,
+    linked: bool,
     line: u32,
     declared: Declarations,
     body: Body,
 ) -> Result<Parsed, ParseError>
     requires { AreEntries declared.stack }
     ensures { (meta : Maps) (doc : FunctionDocument) →
-        declarations_of doc ≡ Ok declared → body_of doc.linked meta doc.body ≡ Ok body → Closes line declared body result }
+        declarations_of doc ≡ Ok declared → body_of linked meta doc.body ≡ Ok body → Closes linked line declared body result }
 {
     let Body {
         before,
@@ -222,6 +224,7 @@ pub fn close(
     }
     let Some(parts) = parts_of(
         alloc,
+        linked,
         &objects,
         declared.stack.as_slice(),
         declared.fixed.as_slice(),

@@ -163,12 +163,17 @@ fn has_bytes(objects: &[Object], n: ObjectId, offset: u64, width: u64) -> bool
     false
 }
 
-/// Whether an instruction's access is within its object.
-fn row_stays(objects: &[Object], decoded: &Decoded) -> bool
-    ensures { (row : Row) → Shows decoded.now row → result ≡ row_stays objects.now row }
+/// Whether an instruction's access is within its object; in the linked language an address may lie outside of it.
+fn row_stays(linked: bool, objects: &[Object], decoded: &Decoded) -> bool
+    ensures { (row : Row) → Shows decoded.now row → result ≡ row_stays linked objects.now row }
 {
     match *decoded {
-        Decoded::Addresses(_, n, offset) => has_bytes(objects, n, offset, 0),
+        Decoded::Addresses(_, n, offset) => has_bytes(
+            objects,
+            n,
+            if linked { 0 } else { offset },
+            0,
+        ),
         Decoded::Loads(_, op, Base::ObjectAt(n), offset) => {
             has_bytes(objects, n, offset, load_width(op) as u64)
         }
@@ -179,28 +184,30 @@ fn row_stays(objects: &[Object], decoded: &Decoded) -> bool
     }
 }
 
-fn kind_stays(objects: &[Object], kind: &ItemKind) -> bool
-    ensures { result ≡ kind_stays objects.now kind.now }
+fn kind_stays(linked: bool, objects: &[Object], kind: &ItemKind) -> bool
+    ensures { result ≡ kind_stays linked objects.now kind.now }
 {
     match kind {
-        ItemKind::Code(instr, _) => row_stays(objects, &instr.decoded()),
+        ItemKind::Code(instr, _) => row_stays(linked, objects, &instr.decoded()),
         ItemKind::Mark(_, _) | ItemKind::Phi(_, _) => true,
     }
 }
 
-fn block_stays(objects: &[Object], block: &Block) -> bool
-    ensures { result ≡ block_stays objects.now block.now }
+fn block_stays(linked: bool, objects: &[Object], block: &Block) -> bool
+    ensures { result ≡ block_stays linked objects.now block.now }
 {
     block
         .items
         .as_slice()
         .iter()
-        .all(|item| kind_stays(objects, &item.kind))
+        .all(|item| kind_stays(linked, objects, &item.kind))
 }
 
 /// Whether each access of these blocks is within its object.
-pub fn blocks_stay(objects: &[Object], blocks: &[Block]) -> bool
-    ensures { result ≡ blocks_stay objects.now blocks.now }
+pub fn blocks_stay(linked: bool, objects: &[Object], blocks: &[Block]) -> bool
+    ensures { result ≡ blocks_stay linked objects.now blocks.now }
 {
-    blocks.iter().all(|block| block_stays(objects, block))
+    blocks
+        .iter()
+        .all(|block| block_stays(linked, objects, block))
 }

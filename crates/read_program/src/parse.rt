@@ -44,17 +44,18 @@ fn refused(refusal: Refusal) -> Result<Parsed, ParseError>
 /// The function of these declarations and this body, if both were read; else the first refusal of the two.
 fn put_together(
     alloc: Global,
+    linked: bool,
     line: u32,
     declared: Result<Declarations, Refusal>,
     body: Result<Body, Refusal>,
 ) -> Result<Parsed, ParseError>
     requires { IfOk declared (λ d. AreEntries d.stack) }
-    ensures { (meta : Maps) (doc : FunctionDocument) → declarations_of doc ≡ declared → body_of doc.linked meta doc.body ≡ body →
-        ParsesParts line declared body result }
+    ensures { (meta : Maps) (doc : FunctionDocument) → declarations_of doc ≡ declared → body_of linked meta doc.body ≡ body →
+        ParsesParts linked line declared body result }
 {
     match declared {
         Ok(declared) => match body {
-            Ok(body) => close(alloc, line, declared, body),
+            Ok(body) => close(alloc, linked, line, declared, body),
             Err(refusal) => refused(refusal),
         },
         Err(refusal) => match body {
@@ -81,5 +82,5 @@ pub fn parse(
 {
     let declared = declared(alloc, document)?;
     let body = read_body(alloc, document.linked, document.body.as_slice(), meta)?;
-    put_together(alloc, document.closed, declared, body)
+    put_together(alloc, document.linked, document.closed, declared, body)
 }

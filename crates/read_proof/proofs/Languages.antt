@@ -93,7 +93,7 @@ abbrev Has : Bool → Parsed → Type 0
 Has linked p = AllItems (λ i. IsOfLanguage linked i.kind) p.func.blocks
 
 parts_language : (meta : Maps) (doc : FunctionDocument) (declared : Result Declarations Refusal) (body : Result Body Refusal) (p : Parsed) →
-    declarations_of doc ≡ declared → body_of doc.linked meta doc.body ≡ body → ParsesParts doc.closed declared body (Ok p) → Has doc.linked p
+    declarations_of doc ≡ declared → body_of doc.linked meta doc.body ≡ body → ParsesParts doc.linked doc.closed declared body (Ok p) → Has doc.linked p
 parts_language meta doc (Ok d) (Ok body) p said is closes =
     let known = closed_reads doc d body said closes.0 in
     subst (λ (f : Function). AllItems (λ i. IsOfLanguage doc.linked i.kind) f.blocks) (sym closes.1)

@@ -72,10 +72,10 @@ pub record IsClosed (d : Declarations) (body : Body) : Type 0 where
   pub more : AllFixed d.fixed body.entries
   pub fixed : IsReadFixed (MAX_SLOTS - length d.stack) d.fixed
 
-pub closed_reads : (doc : FunctionDocument) (d : Declarations) (body : Body) → declarations_of doc ≡ Ok d → closing_cause d body ≡ None → IsClosed d body
+pub closed_reads : (doc : FunctionDocument) (d : Declarations) (body : Body) → declarations_of doc ≡ Ok d → closing_cause doc.linked d body ≡ None → IsClosed d body
 closed_reads doc d body said none =
     let met = all_declared (blocks_go_to body.ids (blocks_of body)) (all_met (known_ids d) body.entries)
-    (are_known (constant_ids d.pool) (blocks_of body) && is_some (parts_of body.objects d.stack d.fixed (blocks_of body))) none in
+    (are_known (constant_ids d.pool) (blocks_of body) && is_some (parts_of doc.linked body.objects d.stack d.fixed (blocks_of body))) none in
     let known = declared_if_met (known_ids d) body.entries met in
     let fixed = declared_fixed doc d said in
     let great = All-weaker (λ n. (FIXED ≤ n) × (n ≤ FIXED + MAX_NUMBER)) (λ n. FIXED ≤ n) (λ n is. is.0) (fixed_ids d.fixed) fixed.great in
@@ -139,14 +139,14 @@ record IsRead (meta : Maps) (p : Parsed) : Type 0 where
   substitutions : All EntryIsLimited p.subs
 
 parts_read : (meta : Maps) (doc : FunctionDocument) (declared : Result Declarations Refusal) (body : Result Body Refusal) (p : Parsed) →
-    declarations_of doc ≡ declared → body_of doc.linked meta doc.body ≡ body → ParsesParts doc.closed declared body (Ok p) → IsRead meta p
+    declarations_of doc ≡ declared → body_of doc.linked meta doc.body ≡ body → ParsesParts doc.linked doc.closed declared body (Ok p) → IsRead meta p
 parts_read meta doc (Ok d) (Ok body) p said is closes =
     let known = closed_reads doc d body said closes.0 in
     let declares = declares_small doc d said in
     record {
       function = subst (IsReadFunction meta) (sym closes.1)
           (function_reads doc.linked meta d body known.all known.more known.fixed (body_reads doc.linked meta doc.body body is)
-          (sound_if_ends_well meta doc d body said is closes.0 closes.3) (ids_small doc.linked meta doc.body body is) declares);
+          (sound_if_ends_well doc.linked meta doc d body said is closes.0 closes.3) (ids_small doc.linked meta doc.body body is) declares);
       substitutions = subst (λ (subs : List DebugSubstitution). All EntryIsLimited subs) (sym closes.2) declares.substitutions;
     }
 parts_read meta doc (Err r) (Ok body) p said is closes = absurd closes

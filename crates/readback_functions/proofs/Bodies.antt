@@ -175,28 +175,28 @@ module _ (ids : List ℕ) where
 
 -- ---- accesses
 
-one_stays : (os : List func.Object) (blk k : ℕ) (kind : ItemKind) (o : Origin) (l : Loc) (rest : List Item) → kind_stays os kind ≡ true →
-    ((j : ℕ) → list_all (λ (i : Item). kind_stays os i.kind) (placed_items blk j rest) ≡ true) →
-    list_all (λ (i : Item). kind_stays os i.kind) (placed_items blk k (cons_option (bare kind o l) rest)) ≡ true
+one_stays : (os : List func.Object) (blk k : ℕ) (kind : ItemKind) (o : Origin) (l : Loc) (rest : List Item) → kind_stays false os kind ≡ true →
+    ((j : ℕ) → list_all (λ (i : Item). kind_stays false os i.kind) (placed_items blk j rest) ≡ true) →
+    list_all (λ (i : Item). kind_stays false os i.kind) (placed_items blk k (cons_option (bare kind o l) rest)) ≡ true
 unfolding placed_items
 one_stays os blk k (Code c x) o l rest here later =
-    and_from (kind_stays os (Code c None)) (list_all (λ (i : Item). kind_stays os i.kind) (placed_items blk (k + 1) rest)) here (later (k + 1))
+    and_from (kind_stays false os (Code c None)) (list_all (λ (i : Item). kind_stays false os i.kind) (placed_items blk (k + 1) rest)) here (later (k + 1))
 one_stays os blk k (Mark v m) o l rest here later = later k
 one_stays os blk k (Phi p x) o l rest here later = later k
 
-items_stay : (os : List func.Object) (blk k : ℕ) (items : List Item) → list_all (λ (i : Item). kind_stays os i.kind) items ≡ true →
-    list_all (λ (i : Item). kind_stays os i.kind) (placed_items blk k (stripped_items items)) ≡ true
+items_stay : (os : List func.Object) (blk k : ℕ) (items : List Item) → list_all (λ (i : Item). kind_stays false os i.kind) items ≡ true →
+    list_all (λ (i : Item). kind_stays false os i.kind) (placed_items blk k (stripped_items items)) ≡ true
 unfolding placed_items
 items_stay os blk k [] stays = refl
 items_stay os blk k (i ∷ is) stays =
-    let parts = and_parts (kind_stays os i.kind) (list_all (λ (x : Item). kind_stays os x.kind) is) stays in
+    let parts = and_parts (kind_stays false os i.kind) (list_all (λ (x : Item). kind_stays false os x.kind) is) stays in
     one_stays os blk k i.kind i.origin i.loc (stripped_items is) parts.0 (λ j. items_stay os blk j is parts.1)
 
-pub all_stay : (os : List func.Object) (bs : List Block) → blocks_stay os bs ≡ true → blocks_stay os (map placed_block (stripped_blocks bs)) ≡ true
+pub all_stay : (os : List func.Object) (bs : List Block) → blocks_stay false os bs ≡ true → blocks_stay false os (map placed_block (stripped_blocks bs)) ≡ true
 all_stay os [] stays = refl
 all_stay os (b ∷ bs) stays =
-    let parts = and_parts (block_stays os b) (blocks_stay os bs) stays in
-    and_from (block_stays os (placed_block (stripped_block b))) (blocks_stay os (map placed_block (stripped_blocks bs))) (items_stay os b.id 0 b.items parts.0)
+    let parts = and_parts (block_stays false os b) (blocks_stay false os bs) stays in
+    and_from (block_stays false os (placed_block (stripped_block b))) (blocks_stay false os (map placed_block (stripped_blocks bs))) (items_stay os b.id 0 b.items parts.0)
     (all_stay os bs parts.1)
 
 -- ---- ends

@@ -23,7 +23,7 @@ exposes_nothing doc d declared plain =
     ∙ ap (λ (b : Bool). exposure_of b doc.twice) plain
 
 by_parts : (doc : FunctionDocument) (p : Parsed) (d : Result Declarations Refusal) (body : Result Body Refusal) → declarations_of doc ≡ d →
-    doc.linked ≡ false → ParsesParts doc.closed d body (Ok p) → p.exposure ≡ Nothing
+    doc.linked ≡ false → ParsesParts doc.linked doc.closed d body (Ok p) → p.exposure ≡ Nothing
 by_parts doc p (Ok d) (Ok body) declared plain closes = closes.4 ∙ exposes_nothing doc d declared plain
 by_parts doc p (Ok d) (Err s) declared plain refused = absurd refused
 by_parts doc p (Err r) (Ok body) declared plain refused = absurd refused
@@ -34,7 +34,7 @@ function_exposes_nothing meta doc p plain parses =
     by_parts doc p (declarations_of doc) (body_of doc.linked meta doc.body) refl plain parses
 
 none_by_parts : (doc : FunctionDocument) (p : Parsed) (d : Result Declarations Refusal) (body : Result Body Refusal) → declarations_of doc ≡ d →
-    doc.linked ≡ false → ParsesParts doc.closed d body (Ok p) → p.pool ≡ []
+    doc.linked ≡ false → ParsesParts doc.linked doc.closed d body (Ok p) → p.pool ≡ []
 none_by_parts doc p (Ok d) (Ok body) declared plain closes = closes.5 ∙ plain_pool doc d declared plain
 none_by_parts doc p (Ok d) (Err s) declared plain refused = absurd refused
 none_by_parts doc p (Err r) (Ok body) declared plain refused = absurd refused
@@ -44,7 +44,7 @@ pub function_has_no_constants : (meta : Maps) (doc : FunctionDocument) (p : Pars
 function_has_no_constants meta doc p plain parses = none_by_parts doc p (declarations_of doc) (body_of doc.linked meta doc.body) refl plain parses
 
 fixed_by_parts : (doc : FunctionDocument) (p : Parsed) (d : Result Declarations Refusal) (body : Result Body Refusal) → declarations_of doc ≡ d →
-    doc.linked ≡ false → ParsesParts doc.closed d body (Ok p) → HasNoFixed p.func.objects
+    doc.linked ≡ false → ParsesParts doc.linked doc.closed d body (Ok p) → HasNoFixed p.func.objects
 fixed_by_parts doc p (Ok d) (Ok body) declared plain closes =
     subst HasNoFixed (sym (ap (λ (f : Function). f.objects) closes.1 ∙ ap (all_objects body.objects d.stack) (plain_fixed doc d declared plain)))
     (objects_unfixed body.objects d.stack)

@@ -98,17 +98,17 @@ texts_are n (t ∷ ts) = ap (λ (l : List (List ℕ)). t ∷ l) (texts_are (n + 
 pub record ClosesAll (d : Declarations) (body : Body) : Type 0 where
   pub branches : blocks_go_to body.ids (blocks_of body) ≡ true
   pub entries : all_met (known_ids d) body.entries ≡ true
-  pub accesses : stays (laid_out body.objects d.stack d.fixed (blocks_of body)) ≡ true
+  pub accesses : stays false (laid_out body.objects d.stack d.fixed (blocks_of body)) ≡ true
 
 pub parts_some : (b : Bool) (parts : Parts) → is_some (cond b (Some parts) None) ≡ b
 parts_some true parts = refl
 parts_some false parts = refl
 
-pub closes_all : (d : Declarations) (body : Body) → closing_cause d body ≡ None → ClosesAll d body
+pub closes_all : (d : Declarations) (body : Body) → closing_cause false d body ≡ None → ClosesAll d body
 closes_all d body none =
     by (blocks_go_to body.ids (blocks_of body)) (all_met (known_ids d) body.entries) (known && is_some parts) refl refl refl none where
       parts : Option Parts
-      parts = parts_of body.objects d.stack d.fixed (blocks_of body)
+      parts = parts_of false body.objects d.stack d.fixed (blocks_of body)
 
       known : Bool
       known = are_known (constant_ids d.pool) (blocks_of body)
@@ -118,7 +118,7 @@ closes_all d body none =
       by true true true p q r e = record {
         branches = p;
         entries = q;
-        accesses = sym (parts_some (stays (laid_out body.objects d.stack d.fixed (blocks_of body))) (laid_out body.objects d.stack d.fixed (blocks_of body)))
+        accesses = sym (parts_some (stays false (laid_out body.objects d.stack d.fixed (blocks_of body))) (laid_out body.objects d.stack d.fixed (blocks_of body)))
             ∙ (and_parts known (is_some parts) r).1;
       }
       by true true false p q r e = absurd cc
@@ -157,7 +157,7 @@ unfixed_is doc d declared plain =
 -- ---- a function
 
 module _ (meta : Maps) (doc : FunctionDocument) (given : Declarations) (body : Body) (p : Parsed) (declared : declarations_of doc ≡ Ok (unfixed given))
-    (plain : doc.linked ≡ false) (read : body_of false meta doc.body ≡ Ok body) (closes : Closes doc.closed (unfixed given) body (Ok p))
+    (plain : doc.linked ≡ false) (read : body_of false meta doc.body ≡ Ok body) (closes : Closes false doc.closed (unfixed given) body (Ok p))
     (names : HasNamesOfBytes (function_of (unfixed given) body)) (again : Maps) (n : ℕ) where
   abbrev d : Declarations
   d = unfixed given
@@ -187,7 +187,7 @@ module _ (meta : Maps) (doc : FunctionDocument) (given : Declarations) (body : B
   known = bodies_are_known meta doc.body body read
 
   sound : IsSound f
-  sound = sound_if_ends_well meta doc d body declared (subst (λ (b : Bool). body_of b meta doc.body ≡ Ok body) (sym plain) read) closes.0 closes.3
+  sound = sound_if_ends_well false meta doc d body declared read closes.0 closes.3
 
   bared : IsSound (stripped f)
   bared = stripped_sound f sound
@@ -332,17 +332,17 @@ module _ (meta : Maps) (doc : FunctionDocument) (given : Declarations) (body : B
       (λ m met. frame.ids m (declared_if_met (entry_ids d.stack) body.entries closed.entries m met)) (instr_as ids c) o l
       (code_named ids body.entries c q)) bs knows)
 
-  accesses : is_some (parts_of body2.objects declared2.stack [] (blocks_of body2)) ≡ true
-  accesses = parts_some (stays (laid_out body2.objects declared2.stack [] (blocks_of body2))) (laid_out body2.objects declared2.stack [] (blocks_of body2))
-      ∙ ((λ i. blocks_stay (frame.objects i) (blocks i)) ∙ all_stay f.objects (blocks_as ids bs) closed.accesses)
+  accesses : is_some (parts_of false body2.objects declared2.stack [] (blocks_of body2)) ≡ true
+  accesses = parts_some (stays false (laid_out body2.objects declared2.stack [] (blocks_of body2))) (laid_out body2.objects declared2.stack [] (blocks_of body2))
+      ∙ ((λ i. blocks_stay false (frame.objects i) (blocks i)) ∙ all_stay f.objects (blocks_as ids bs) closed.accesses)
 
   constants : are_known [] (blocks_of body2) ≡ true
   constants = plain_known again (document_at n (document_of (stripped f))).body body2 reads.read []
 
-  none : closing_cause declared2 body2 ≡ None
+  none : closing_cause false declared2 body2 ≡ None
   none = no_cause (blocks_go_to body2.ids (blocks_of body2)) (all_met (entry_ids declared2.stack) body2.entries)
-      (are_known [] (blocks_of body2) && is_some (parts_of body2.objects declared2.stack [] (blocks_of body2))) branches all_entries
-      (and_from (are_known [] (blocks_of body2)) (is_some (parts_of body2.objects declared2.stack [] (blocks_of body2))) constants accesses)
+      (are_known [] (blocks_of body2) && is_some (parts_of false body2.objects declared2.stack [] (blocks_of body2))) branches all_entries
+      (and_from (are_known [] (blocks_of body2)) (is_some (parts_of false body2.objects declared2.stack [] (blocks_of body2))) constants accesses)
 
   ends : EndWell (function_of declared2 body2).blocks
   ends = subst EndWell (sym blocks) (all_end sb bared.ends, last_placed sb bared.last)
@@ -352,12 +352,12 @@ module _ (meta : Maps) (doc : FunctionDocument) (given : Declarations) (body : B
   function_read =
       let doc2 = document_at n (document_of (stripped f)) in
       let answer : Result Parsed ParseError = Ok (record { func = placed (stripped f); subs = []; pool = []; exposure = Nothing }) in
-      subst (λ (r : Result Declarations Refusal). ParsesParts doc2.closed r (body_of false again doc2.body) answer) (sym declares)
-      (subst (λ (r : Result Body Refusal). ParsesParts doc2.closed (Ok declared2) r answer) (sym reads.read)
+      subst (λ (r : Result Declarations Refusal). ParsesParts false doc2.closed r (body_of false again doc2.body) answer) (sym declares)
+      (subst (λ (r : Result Body Refusal). ParsesParts false doc2.closed (Ok declared2) r answer) (sym reads.read)
       (none, sym same_function, refl, ends, refl, refl))
 
 module _ (meta : Maps) (doc : FunctionDocument) (given : Declarations) (body : Body) (p : Parsed) (declared : declarations_of doc ≡ Ok (unfixed given))
-    (plain : doc.linked ≡ false) (read : body_of false meta doc.body ≡ Ok body) (closes : Closes doc.closed (unfixed given) body (Ok p))
+    (plain : doc.linked ≡ false) (read : body_of false meta doc.body ≡ Ok body) (closes : Closes false doc.closed (unfixed given) body (Ok p))
     (names : HasNamesOfBytes (function_of (unfixed given) body)) where
   abbrev own : Declarations
   own = unfixed given
@@ -394,11 +394,11 @@ module _ (meta : Maps) (doc : FunctionDocument) (given : Declarations) (body : B
   }
 
 by_parts : (meta : Maps) (doc : FunctionDocument) (p : Parsed) (d : Result Declarations Refusal) (body : Result Body Refusal) →
-    declarations_of doc ≡ d → doc.linked ≡ false → body_of false meta doc.body ≡ body → ParsesParts doc.closed d body (Ok p) → HasNamesOfBytes p.func →
+    declarations_of doc ≡ d → doc.linked ≡ false → body_of false meta doc.body ≡ body → ParsesParts false doc.closed d body (Ok p) → HasNamesOfBytes p.func →
     IsReadAgain p
 by_parts meta doc p (Ok d) (Ok body) declared plain read closes names =
     let same = unfixed_is doc d declared plain in
-    let own = subst (λ (x : Declarations). Closes doc.closed x body (Ok p)) same closes in
+    let own = subst (λ (x : Declarations). Closes false doc.closed x body (Ok p)) same closes in
     subst (λ (g : Function). IsReadAgain (record { func = g; subs = p.subs; pool = p.pool; exposure = p.exposure })) (sym own.1)
     (read_again meta doc d body p (declared ∙ ap (λ (x : Declarations). Ok x) same) plain read own (subst HasNamesOfBytes own.1 names))
 by_parts meta doc p (Ok d) (Err s) declared plain read refused names = absurd refused
@@ -408,4 +408,5 @@ by_parts meta doc p (Err r) (Err s) declared plain read refused names = absurd r
 pub functions_read_back : StrippedReadsBack
 functions_read_back meta doc p plain parses names =
     by_parts meta doc p (declarations_of doc) (body_of doc.linked meta doc.body) refl plain
-    (ap (λ (b : Bool). body_of b meta doc.body) (sym plain)) parses names
+    (ap (λ (b : Bool). body_of b meta doc.body) (sym plain))
+    (subst (λ (b : Bool). ParsesParts b doc.closed (declarations_of doc) (body_of doc.linked meta doc.body) (Ok p)) plain parses) names

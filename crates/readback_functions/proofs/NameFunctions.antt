@@ -125,7 +125,7 @@ checked_is (Some r) declared d e = absurd cc
 checked_is None declared d e = cc
 
 by_parts : (meta : Maps) (doc : FunctionDocument) (q : Parsed) (d : Result Declarations Refusal) (body : Result Body Refusal) → declarations_of doc ≡ d →
-    body_of false meta doc.body ≡ body → ParsesParts doc.closed d body (Ok q) → DocBytes doc → HasNamesOfBytes q.func
+    body_of false meta doc.body ≡ body → ParsesParts doc.linked doc.closed d body (Ok q) → DocBytes doc → HasNamesOfBytes q.func
 by_parts meta doc q (Ok d) (Ok body) declared read closes bytes =
     let same = checked_is (refusal_of doc) (declared_of doc) d declared in
     subst HasNamesOfBytes (sym closes.1) (record {

@@ -236,7 +236,7 @@ pool_known false lines = none_known
 -- ---- programs
 
 parts_known : (doc : FunctionDocument) (q : Parsed) (d : Result Declarations Refusal) (body : Result Body Refusal) → declarations_of doc ≡ d →
-    ParsesParts doc.closed d body (Ok q) → Known q.pool
+    ParsesParts doc.linked doc.closed d body (Ok q) → Known q.pool
 parts_known doc q (Ok d) (Ok body) declared closes =
     let same = checked_is (refusal_of doc) (declared_of doc) d declared in
     subst Known (ap (λ (x : Declarations). x.pool) same ∙ sym closes.5) (pool_known doc.linked doc.constants)

@@ -89,16 +89,16 @@ module _ (linked : Bool) (meta : Maps) (end : Body) (ids : List ℕ) where
       (both (λ (b : Block). All KeptItem b.items) (λ (b : Block). All (λ i. LeavesPointer i.kind) b.items) bs kept pointer)
 
 closed_readable : (meta : Maps) (doc : FunctionDocument) (d : Declarations) (body : Body) (p : Parsed) → declarations_of doc ≡ Ok d →
-    body_of doc.linked meta doc.body ≡ Ok body → Closes doc.closed d body (Ok p) → AllItems (λ i. IsReadable meta i.loc i.kind) p.func.blocks
+    body_of doc.linked meta doc.body ≡ Ok body → Closes doc.linked doc.closed d body (Ok p) → AllItems (λ i. IsReadable meta i.loc i.kind) p.func.blocks
 closed_readable meta doc d body p declared read closes =
-    let sound = sound_if_ends_well meta doc d body declared read closes.0 closes.3 in
+    let sound = sound_if_ends_well doc.linked meta doc d body declared read closes.0 closes.3 in
     let is = body_reads doc.linked meta doc.body body read in
     let ids = ids_of_objects body.objects d.stack in
     subst (λ (bs : List Block). AllItems (λ i. IsReadable meta i.loc i.kind) bs) (sym (ap (λ (f : Function). f.blocks) closes.1))
     (all_readable doc.linked meta body ids (blocks_as ids (blocks_of body)) (all_kept doc.linked meta body ids (blocks_of body) is.blocks) sound.pointer)
 
 by_parts : (meta : Maps) (doc : FunctionDocument) (p : Parsed) (d : Result Declarations Refusal) (body : Result Body Refusal) → declarations_of doc ≡ d →
-    body_of doc.linked meta doc.body ≡ body → ParsesParts doc.closed d body (Ok p) → AllItems (λ i. IsReadable meta i.loc i.kind) p.func.blocks
+    body_of doc.linked meta doc.body ≡ body → ParsesParts doc.linked doc.closed d body (Ok p) → AllItems (λ i. IsReadable meta i.loc i.kind) p.func.blocks
 by_parts meta doc p (Ok d) (Ok body) declared read closes = closed_readable meta doc d body p declared read closes
 by_parts meta doc p (Ok d) (Err s) declared read refused = absurd refused
 by_parts meta doc p (Err r) (Ok body) declared read refused = absurd refused

@@ -86,8 +86,9 @@ const ROWS: &[(&str, &str, bool)] = &[
     ("object:9 24", "object:8 12", true),
     ("object:9 20", "object:8 9", false),
     ("object:9 20", "object:8 -4", false),
-    ("object:9 24", "object:8 13", false),
-    ("object:9 24", "object:8 -1", false),
+    ("object:9 24", "object:8 13", true),
+    ("object:9 24", "object:8 -1", true),
+    ("object:9 24", "object:3 24", false),
     ("object:9", "object:3", false),
     (
         "8 12 4 0\nobject 9 24 16 16",

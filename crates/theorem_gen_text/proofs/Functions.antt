@@ -331,23 +331,23 @@ module _ (meta : Maps) (number count : ℕ) (some : 1 ≤ count) (few : count �
       (kind_plain g.made)
       (kind_declared [] SLOTS (entry_ids ENTRIES) (λ m met. ap (is_met m) ids_are ∙ met) i.kind i g.known (named_made g.made))))
 
-  stay : blocks_stay [] bs ≡ true
-  stay = all_true (block_stays []) bs
-      (All-weaker (λ (b : Block). All IsGood b.items) (λ (b : Block). block_stays [] b ≡ true)
-      (λ b all. all_true (λ (i : Item). kind_stays [] i.kind) b.items
-      (All-weaker IsGood (λ i. kind_stays [] i.kind ≡ true) (λ i g. stays_made g.made) b.items all)) bs good)
+  stay : blocks_stay false [] bs ≡ true
+  stay = all_true (block_stays false []) bs
+      (All-weaker (λ (b : Block). All IsGood b.items) (λ (b : Block). block_stays false [] b ≡ true)
+      (λ b all. all_true (λ (i : Item). kind_stays false [] i.kind) b.items
+      (All-weaker IsGood (λ i. kind_stays false [] i.kind ≡ true) (λ i g. stays_made g.made) b.items all)) bs good)
 
-  accesses : is_some (parts_of body.objects ENTRIES [] (blocks_of body)) ≡ true
-  accesses = parts_some (stays (laid_out body.objects ENTRIES [] (blocks_of body))) (laid_out body.objects ENTRIES [] (blocks_of body))
-      ∙ ((λ i. blocks_stay (objects i) (blocks i)) ∙ stay)
+  accesses : is_some (parts_of false body.objects ENTRIES [] (blocks_of body)) ≡ true
+  accesses = parts_some (stays false (laid_out body.objects ENTRIES [] (blocks_of body))) (laid_out body.objects ENTRIES [] (blocks_of body))
+      ∙ ((λ i. blocks_stay false (objects i) (blocks i)) ∙ stay)
 
   constants : are_known [] (blocks_of body) ≡ true
   constants = plain_known meta doc.body body reads.read []
 
-  none : closing_cause declares body ≡ None
+  none : closing_cause false declares body ≡ None
   none = no_cause (blocks_go_to body.ids (blocks_of body)) (all_met (entry_ids ENTRIES) body.entries)
-      (are_known [] (blocks_of body) && is_some (parts_of body.objects ENTRIES [] (blocks_of body))) branches all_entries
-      (and_from (are_known [] (blocks_of body)) (is_some (parts_of body.objects ENTRIES [] (blocks_of body))) constants accesses)
+      (are_known [] (blocks_of body) && is_some (parts_of false body.objects ENTRIES [] (blocks_of body))) branches all_entries
+      (and_from (are_known [] (blocks_of body)) (is_some (parts_of false body.objects ENTRIES [] (blocks_of body))) constants accesses)
 
   ends : EndWell (function_of declares body).blocks
   ends = subst EndWell (sym blocks) (read.sound.ends, read.sound.last)
@@ -355,8 +355,8 @@ module _ (meta : Maps) (number count : ℕ) (some : 1 ≤ count) (few : count �
   pub function_read : Parses meta doc (Ok (record { func = f; subs = []; pool = []; exposure = Nothing }))
   function_read =
       let answer : Result Parsed ParseError = Ok (record { func = f; subs = []; pool = []; exposure = Nothing }) in
-      subst (λ (r : Result Declarations Refusal). ParsesParts doc.closed r (body_of false meta doc.body) answer) (sym are_declared)
-      (subst (λ (r : Result Body Refusal). ParsesParts doc.closed (Ok declares) r answer) (sym reads.read)
+      subst (λ (r : Result Declarations Refusal). ParsesParts false doc.closed r (body_of false meta doc.body) answer) (sym are_declared)
+      (subst (λ (r : Result Body Refusal). ParsesParts false doc.closed (Ok declares) r answer) (sym reads.read)
       (none, sym same_function, refl, ends, refl, refl))
 
   pub all_writable : All IsWritable (items_of bs)

@@ -315,11 +315,11 @@ names_none m i made known =
     ap (λ (k : ItemKind). option_map_or (λ n. eqb m n) (object_named k) false) (judged_made made known)
     ∙ ap (λ (o : Option ℕ). option_map_or (λ n. eqb m n) o false) (object_made made)
 
-stays_copied : (rd rs : ℕ) (k : Option ℕ) → kind_stays [] (copy rd rs k) ≡ true
+stays_copied : (rd rs : ℕ) (k : Option ℕ) → kind_stays false [] (copy rd rs k) ≡ true
 stays_copied rd zero k = refl
 stays_copied rd (suc rs) k = refl
 
-pub stays_made : {kind : ItemKind} → IsMade TOP kind → kind_stays [] kind ≡ true
+pub stays_made : {kind : ItemKind} → IsMade TOP kind → kind_stays false [] kind ≡ true
 stays_made (adds rd rs rt k a b c l) = refl
 stays_made (copies rd rs k a b l) = stays_copied rd rs (Some k)
 stays_made gives = refl

@@ -93,7 +93,7 @@ record IsGood (meta : Maps) (body : Body) (kind : ItemKind) (loc : Loc) : Type 0
   read : IsReadItem false meta body.entries kind loc
 
 module _ (meta : Maps) (doc : FunctionDocument) (given : Declarations) (body : Body) (p : Parsed) (declared : declarations_of doc ≡ Ok (unfixed given))
-    (plain : doc.linked ≡ false) (read : body_of false meta doc.body ≡ Ok body) (closes : Closes doc.closed (unfixed given) body (Ok p))
+    (plain : doc.linked ≡ false) (read : body_of false meta doc.body ≡ Ok body) (closes : Closes false doc.closed (unfixed given) body (Ok p))
     (parses : Parses meta doc (Ok p)) (names : HasNamesOfBytes (function_of (unfixed given) body)) (n : ℕ) where
   abbrev d : Declarations
   d = unfixed given
@@ -120,7 +120,7 @@ module _ (meta : Maps) (doc : FunctionDocument) (given : Declarations) (body : B
   known = bodies_are_known meta doc.body body read
 
   sound : IsSound f
-  sound = sound_if_ends_well meta doc d body declared (subst (λ (b : Bool). body_of b meta doc.body ≡ Ok body) (sym plain) read) closes.0 closes.3
+  sound = sound_if_ends_well false meta doc d body declared read closes.0 closes.3
 
   closed : ClosesAll d body
   closed = closes_all d body closes.0
@@ -304,23 +304,23 @@ module _ (meta : Maps) (doc : FunctionDocument) (given : Declarations) (body : B
       (λ i g. kind_declared ids body.entries (entry_ids declared2.stack)
       (λ m met. frame.ids m (declared_if_met (entry_ids d.stack) body.entries closed.entries m met)) i.kind i g.known g.read.named) bs good)
 
-  accesses : is_some (parts_of body2.objects declared2.stack [] (blocks_of body2)) ≡ true
-  accesses = parts_some (stays (laid_out body2.objects declared2.stack [] (blocks_of body2))) (laid_out body2.objects declared2.stack [] (blocks_of body2))
-      ∙ ((λ i. blocks_stay (frame.objects i) (blocks i)) ∙ closed.accesses)
+  accesses : is_some (parts_of false body2.objects declared2.stack [] (blocks_of body2)) ≡ true
+  accesses = parts_some (stays false (laid_out body2.objects declared2.stack [] (blocks_of body2))) (laid_out body2.objects declared2.stack [] (blocks_of body2))
+      ∙ ((λ i. blocks_stay false (frame.objects i) (blocks i)) ∙ closed.accesses)
 
   constants : are_known [] (blocks_of body2) ≡ true
   constants = plain_known meta doc2.body body2 reads.read []
 
-  none : closing_cause declared2 body2 ≡ None
+  none : closing_cause false declared2 body2 ≡ None
   none = no_cause (blocks_go_to body2.ids (blocks_of body2)) (all_met (entry_ids declared2.stack) body2.entries)
-      (are_known [] (blocks_of body2) && is_some (parts_of body2.objects declared2.stack [] (blocks_of body2))) branches all_entries
-      (and_from (are_known [] (blocks_of body2)) (is_some (parts_of body2.objects declared2.stack [] (blocks_of body2))) constants accesses)
+      (are_known [] (blocks_of body2) && is_some (parts_of false body2.objects declared2.stack [] (blocks_of body2))) branches all_entries
+      (and_from (are_known [] (blocks_of body2)) (is_some (parts_of false body2.objects declared2.stack [] (blocks_of body2))) constants accesses)
 
   function_read : Parses meta doc2 (Ok (record { func = f; subs = d.substitutions; pool = []; exposure = Nothing }))
   function_read =
       let answer : Result Parsed ParseError = Ok (record { func = f; subs = d.substitutions; pool = []; exposure = Nothing }) in
-      subst (λ (r : Result Declarations Refusal). ParsesParts doc2.closed r (body_of false meta doc2.body) answer) (sym declares)
-      (subst (λ (r : Result Body Refusal). ParsesParts doc2.closed (Ok declared2) r answer) (sym reads.read)
+      subst (λ (r : Result Declarations Refusal). ParsesParts false doc2.closed r (body_of false meta doc2.body) answer) (sym declares)
+      (subst (λ (r : Result Body Refusal). ParsesParts false doc2.closed (Ok declared2) r answer) (sym reads.read)
       (none, sym same_function, refl, subst EndWell (sym blocks) closes.3, refl, refl))
 
   is_document : IsDocument printed
@@ -336,7 +336,7 @@ found_alone f is =
     ∙ documents_read_back (f ∷ []) (All-cons IsDocument f [] is (All-nil IsDocument))
 
 read_as_printed : (meta : Maps) (doc : FunctionDocument) (d : Declarations) (body : Body) (p : Parsed) → declarations_of doc ≡ Ok (unfixed d) →
-    doc.linked ≡ false → body_of false meta doc.body ≡ Ok body → Closes doc.closed (unfixed d) body (Ok p) → Parses meta doc (Ok p) →
+    doc.linked ≡ false → body_of false meta doc.body ≡ Ok body → Closes false doc.closed (unfixed d) body (Ok p) → Parses meta doc (Ok p) →
     HasNamesOfBytes (function_of (unfixed d) body) →
     IsReadAsPrinted meta (record { func = function_of (unfixed d) body; subs = d.substitutions; pool = []; exposure = Nothing })
 read_as_printed meta doc d body p declared plain read closes parses names =
@@ -349,14 +349,14 @@ read_as_printed meta doc d body p declared plain read closes parses names =
     }
 
 by_parts : (meta : Maps) (doc : FunctionDocument) (p : Parsed) (d : Result Declarations Refusal) (body : Result Body Refusal) →
-    declarations_of doc ≡ d → doc.linked ≡ false → body_of false meta doc.body ≡ body → ParsesParts doc.closed d body (Ok p) → Parses meta doc (Ok p) →
+    declarations_of doc ≡ d → doc.linked ≡ false → body_of false meta doc.body ≡ body → ParsesParts false doc.closed d body (Ok p) → Parses meta doc (Ok p) →
     HasNamesOfBytes p.func →
     IsReadAsPrinted meta p
 by_parts meta doc p (Ok d) (Ok body) declared plain read closes parses names =
     let exposes : Nothing ≡ p.exposure = sym (closes.4 ∙ exposes_nothing doc d declared plain) in
     let without : [] ≡ p.pool = sym (closes.5 ∙ plain_pool doc d declared plain) in
     let unfixed_too = unfixed_is doc d declared plain in
-    let own = subst (λ (x : Declarations). Closes doc.closed x body (Ok p)) unfixed_too closes in
+    let own = subst (λ (x : Declarations). Closes false doc.closed x body (Ok p)) unfixed_too closes in
     let same : record { func = function_of (unfixed d) body; subs = d.substitutions; pool = []; exposure = Nothing } ≡ p =
     λ i. record { func = sym own.1 i; subs = sym own.2 i; pool = without i; exposure = exposes i } in
     subst (IsReadAsPrinted meta) same (read_as_printed meta doc d body p (declared ∙ ap (λ (x : Declarations). Ok x) unfixed_too) plain read own parses
@@ -375,6 +375,8 @@ printed_functions_are_read text p bytes reads =
     subst (λ (m : Maps). All (IsReadAsPrinted m) p.functions) (sym from.maps)
     (All-weaker (λ q. WasRead DocBytes meta q × HasNamesOfBytes q.func) (IsReadAsPrinted meta)
     (λ q was. by_parts meta was.0.doc q (declarations_of was.0.doc) (body_of was.0.doc.linked meta was.0.doc.body) refl was.0.is.plain
-    (ap (λ (b : Bool). body_of b meta was.0.doc.body) (sym was.0.is.plain)) was.0.parses was.0.parses was.1) p.functions
+    (ap (λ (b : Bool). body_of b meta was.0.doc.body) (sym was.0.is.plain))
+    (subst (λ (b : Bool). ParsesParts b was.0.doc.closed (declarations_of was.0.doc) (body_of was.0.doc.linked meta was.0.doc.body) (Ok q)) was.0.is.plain
+    was.0.parses) was.0.parses was.1) p.functions
     (both (WasRead DocBytes meta) (λ (q : Parsed). HasNamesOfBytes q.func) p.functions (program_read text p bytes reads).1
     (names_are_of_bytes text p bytes reads)))

@@ -5,7 +5,7 @@ use Rattle.mir_func.specs.declared.position.ProgramPoint.{ProgramPoint}
 use Rattle.mir_func.specs.declared.position.Pos.{Pos}
 use Rattle.mir_func.specs.Function.{FramedFunction}
 use Rattle.mir_func.specs.Sound.{SlotsIn, ObjectsIn}
-use Rattle.mir_func.specs.SoundFrame.{slot_offsets, IsFramed}
+use Rattle.mir_func.specs.SoundFrame.{own_size, slot_offsets, KindReaches, IsFramed}
 use Rattle.emit_code.specs.declared.code.EncodedInstruction.{EncodedInstruction}
 use Rattle.emit_code.specs.declared.objects.ObjectOffsets.{ObjectOffsets}
 use Rattle.emit_code.specs.Rule.{Layout, Site, entries_at}
@@ -45,6 +45,6 @@ pub record IsSource (l : Layout) (o : ObjectOffsets) : Type 0 where
   pub framed : IsFramed l.framed
   pub offsets : AreOffsetsOf l.framed o
 
--- the slots and the stack objects that an item names exist
+-- the slots and the stack objects that an item names exist, and an address that it forms lies low enough above x2
 abbrev pub IsPlaced : FramedFunction → ItemKind → Type 0
-IsPlaced f kind = SlotsIn (slot_offsets f) kind × ObjectsIn f.objects kind
+IsPlaced f kind = SlotsIn (slot_offsets f) kind × ObjectsIn f.objects kind × KindReaches (own_size f) f.objects kind

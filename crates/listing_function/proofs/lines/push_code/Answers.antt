@@ -17,4 +17,4 @@ returns-in_ok-push_one-in-None c = λ l s others source placed stands is kind.
     let form = subst (λ (x : Instruction). IsTrue (has_form x.op x.operands)) c.i.view_is c.i.invariant in
     one_lined l s c.args.i.now c.args.number c.args.entries.now others c.args.at c.in-Some.address form kind stands c.in-Some.ensures
     c.in-None.ensures c.args.lines.now c.push_one.new.lines c.args.item.now is (c.in_ok-push_one-in-None.ensures l.framed source.offsets
-    (operands_formed l.framed source.framed c.args.i.now.op c.args.i.now.operands form placed.0.0 placed.1))
+    (operands_formed l.framed source.framed c.args.i.now.op c.args.i.now.operands form placed.0.0 placed.1 placed.2))
