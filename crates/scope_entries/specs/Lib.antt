@@ -1,0 +1,4 @@
+pub mod Prefix
+pub mod Items
+pub mod Laws
+pub mod steps

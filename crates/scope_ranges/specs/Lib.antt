@@ -1,0 +1,4 @@
+pub mod Words
+pub mod Scopes
+pub mod Laws
+pub mod steps

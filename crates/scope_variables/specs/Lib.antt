@@ -1,0 +1,6 @@
+pub mod Nodes
+pub mod Scope
+pub mod Order
+pub mod Variables
+pub mod Laws
+pub mod steps

@@ -1,0 +1,3 @@
+pub mod Outer
+pub mod Ways
+pub mod steps
