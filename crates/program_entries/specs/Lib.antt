@@ -1,0 +1,4 @@
+pub mod Declarations
+pub mod Variables
+pub mod Functions
+pub mod Program

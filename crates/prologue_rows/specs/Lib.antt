@@ -1,0 +1,6 @@
+pub mod Words
+pub mod Lines
+pub mod Files
+pub mod Rows
+pub mod Table
+pub mod Laws

@@ -1,0 +1,11 @@
+pub mod Codes
+pub mod Field
+pub mod steps
+pub mod Number
+pub mod Value
+pub mod Types
+pub mod Kind
+pub mod Tuple
+pub mod Line
+pub mod Maps
+pub mod Metadata

@@ -1,0 +1,5 @@
+pub mod Indices
+pub mod Parts
+pub mod Tags
+pub mod Shapes
+pub mod Types

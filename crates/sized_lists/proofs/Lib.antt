@@ -1,0 +1,3 @@
+mod Pieces
+mod Sections
+pub mod Sized

@@ -1,0 +1,4 @@
+pub mod Standard
+pub mod Sized
+pub mod Spelling
+pub mod Grammar
