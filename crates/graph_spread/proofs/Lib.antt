@@ -1,2 +1,3 @@
 mod Reached
 mod Walk
+pub use Rattle.dataflow.proofs as dataflow

@@ -1,1 +1,2 @@
 pub mod Spread
+pub use Rattle.dataflow.specs as dataflow

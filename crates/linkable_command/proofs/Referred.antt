@@ -1,5 +1,5 @@
 -- The symbols of names to which code refers, and the relocations of references.
-use Rattle.std.proofs.Common.{◌≡◌, ℕ, ◌+◌, ◌^◌, ◌≤◌, List, [], ◌∷◌, ◌++◌, length, map, take, refl, sym, ap, ◌∙◌, arith, append_assoc, subst}
+use Rattle.std.proofs.Common.{◌≡◌, ℕ, true, false, ◌+◌, ◌^◌, ◌≤◌, List, [], ◌∷◌, ◌++◌, length, map, take, refl, sym, ap, ◌∙◌, arith, append_assoc, subst}
 use Rattle.std.specs.List.{position_or_len}
 use Rattle.std.proofs.lemmas.List.{map-append}
 use Rattle.dwarf_line_table.specs.Files.{with_new, first_uses}
@@ -8,44 +8,57 @@ use Rattle.elf_object.specs.declared.symbols.Symbol.{Symbol}
 use Rattle.elf_object.specs.declared.relocations.Relocation.{Relocation}
 use Rattle.elf_relocation.specs.Kinds.{number_of}
 use Rattle.listing_text.specs.declared.output.ListedFunction.{ListedFunction}
-use Rattle.object_command.specs.Object.{have_one_name, defined_symbol}
+use Rattle.object_command.specs.Object.{have_one_name}
 use Rattle.object_command.proofs.SymbolLemmas.{length_uses}
 use Rattle.linkable_command.specs.declared.reference.Reference.{Reference}
 use Rattle.linkable_command.specs.References.{references}
-use Rattle.linkable_command.specs.Symbols.{undefined_symbol, named_symbols, relocation_by}
+use Rattle.read_linkage.specs.declared.linkage.LinkedName.{LinkedName}
+use Rattle.linkable_command.specs.Symbols.{bound_symbols, undefined_symbol, named_symbols, relocation_by}
 
 -- ---- all symbols
 
--- those of functions, and then those of other names
-pub linked : (start made whole : List Symbol) (functions : List ListedFunction) (rs : List Reference) → start ≡ []
-    → made ≡ first_uses have_one_name start (map defined_symbol functions)
-    → whole ≡ first_uses have_one_name made (map undefined_symbol rs) → rs ≡ references functions → whole ≡ named_symbols functions
-linked start made whole functions rs empty made_is whole_is same =
+-- the local ones of functions, then the others, and then those of other names
+pub linked : (linkages : List LinkedName) (start locals made whole : List Symbol) (functions : List ListedFunction) (rs : List Reference) → start ≡ []
+    → locals ≡ first_uses have_one_name start (bound_symbols true linkages functions)
+    → made ≡ first_uses have_one_name locals (bound_symbols false linkages functions)
+    → whole ≡ first_uses have_one_name made (map undefined_symbol rs) → rs ≡ references functions → whole ≡ named_symbols linkages functions
+linked linkages start locals made whole functions rs empty locals_are made_is whole_is same =
+    let first : List Symbol = bound_symbols true linkages functions in
+    let others : List Symbol = bound_symbols false linkages functions in
+    let undefined : List Symbol = map undefined_symbol (references functions) in
+    let defined : made ≡ first_uses have_one_name [] (first ++ others) =
+    made_is
+    ∙ ap (λ (ss : List Symbol). first_uses have_one_name ss others)
+    (locals_are ∙ ap (λ (ss : List Symbol). first_uses have_one_name ss first) empty)
+    ∙ sym (uses_append have_one_name [] first others) in
     whole_is
-    ∙ ap (λ xs. first_uses have_one_name made (map undefined_symbol xs)) same
-    ∙ ap (λ ss. first_uses have_one_name ss (map undefined_symbol (references functions))) (
-    made_is ∙ ap (λ ss. first_uses have_one_name ss (map defined_symbol functions)) empty)
-    ∙ sym (uses_append have_one_name [] (map defined_symbol functions) (map undefined_symbol (references functions)))
+    ∙ ap (λ (xs : List Reference). first_uses have_one_name made (map undefined_symbol xs)) same
+    ∙ ap (λ (ss : List Symbol). first_uses have_one_name ss undefined) defined ∙ sym (uses_append have_one_name [] (first ++ others) undefined)
 
-pub early : (start : List Symbol) (functions : List ListedFunction) → start ≡ []
-    → 2 ^ 27 ≤ length (first_uses have_one_name start (map defined_symbol functions)) → 2 ^ 27 ≤ length (named_symbols functions)
-early start functions empty many =
-    let first : List Symbol = first_uses have_one_name [] (map defined_symbol functions) in
-    let others : List Symbol = map undefined_symbol (references functions) in
-    let begun : 2 ^ 27 ≤ length first =
-    subst (λ ss. 2 ^ 27 ≤ length (first_uses have_one_name ss (map defined_symbol functions))) empty many in
-    subst (λ ss. 2 ^ 27 ≤ length ss) (sym (uses_append have_one_name [] (map defined_symbol functions) others))
-    (further first others begun)
-  where
-    further : (first others : List Symbol) → 2 ^ 27 ≤ length first → 2 ^ 27 ≤ length (first_uses have_one_name first others)
-    further first others begun = omega (arith, begun, length_uses first others)
+further : (first others : List Symbol) → 2 ^ 27 ≤ length first → 2 ^ 27 ≤ length (first_uses have_one_name first others)
+further first others begun = omega (arith, begun, length_uses first others)
 
-pub late : (start made : List Symbol) (functions : List ListedFunction) (rs : List Reference) → start ≡ []
-    → made ≡ first_uses have_one_name start (map defined_symbol functions) → rs ≡ references functions
-    → 2 ^ 27 ≤ length (first_uses have_one_name made (map undefined_symbol rs)) → 2 ^ 27 ≤ length (named_symbols functions)
-late start made functions rs empty made_is same many =
-    subst (λ ss. 2 ^ 27 ≤ length ss)
-    (linked start made (first_uses have_one_name made (map undefined_symbol rs)) functions rs empty made_is refl same) many
+pub late : (linkages : List LinkedName) (start locals made : List Symbol) (functions : List ListedFunction) (rs : List Reference) → start ≡ []
+    → locals ≡ first_uses have_one_name start (bound_symbols true linkages functions)
+    → made ≡ first_uses have_one_name locals (bound_symbols false linkages functions) → rs ≡ references functions
+    → 2 ^ 27 ≤ length (first_uses have_one_name made (map undefined_symbol rs)) → 2 ^ 27 ≤ length (named_symbols linkages functions)
+late linkages start locals made functions rs empty locals_are made_is same many =
+    subst (λ (ss : List Symbol). 2 ^ 27 ≤ length ss)
+    (linked linkages start locals made (first_uses have_one_name made (map undefined_symbol rs)) functions rs empty locals_are made_is refl same) many
+
+pub middle : (linkages : List LinkedName) (start locals : List Symbol) (functions : List ListedFunction) → start ≡ []
+    → locals ≡ first_uses have_one_name start (bound_symbols true linkages functions)
+    → 2 ^ 27 ≤ length (first_uses have_one_name locals (bound_symbols false linkages functions)) → 2 ^ 27 ≤ length (named_symbols linkages functions)
+middle linkages start locals functions empty locals_are many =
+    let made : List Symbol = first_uses have_one_name locals (bound_symbols false linkages functions) in
+    late linkages start locals made functions (references functions) empty locals_are refl refl
+    (further made (map undefined_symbol (references functions)) many)
+
+pub early : (linkages : List LinkedName) (start : List Symbol) (functions : List ListedFunction) → start ≡ []
+    → 2 ^ 27 ≤ length (first_uses have_one_name start (bound_symbols true linkages functions)) → 2 ^ 27 ≤ length (named_symbols linkages functions)
+early linkages start functions empty many =
+    let locals : List Symbol = first_uses have_one_name start (bound_symbols true linkages functions) in
+    middle linkages start locals functions empty refl (further locals (bound_symbols false linkages functions) many)
 
 -- ---- relocations
 

@@ -1,14 +1,15 @@
 -- The object of an output can be written.
 use Rattle.std.specs.Prelude.{codes, All, Option, Some, None, IsNone, is_some, Result, Ok, Err, IfOk}
 use Rattle.std.specs.List.{AllByRecursion, list_any}
-use Rattle.std.proofs.Common.{◌≡◌, ℕ, suc, ◌+◌, ◌*◌, ◌^◌, ◌<◌, ◌≤◌, Bool, true, false, if◌then◌else◌, List, [], ◌∷◌, ◌++◌, length, map, arith, ap, sym, refl}
-use Rattle.std.proofs.Common.{◌∙◌, subst, append_assoc, length-append, ◌⊎◌, inl, inr, true≢false}
+use Rattle.std.proofs.Common.{◌≡◌, ℕ, suc, ◌+◌, ◌*◌, ◌^◌, ◌<◌, ◌≤◌, Bool, true, false, not, if◌then◌else◌, List, [], ◌∷◌, ◌++◌, length, map, arith}
+use Rattle.std.proofs.Common.{ap, sym, refl, ◌∙◌, subst, append_assoc, length-append, ◌⊎◌, inl, inr, true≢false}
 use Rattle.std.proofs.lemmas.List.{length-map}
 use Rattle.std.proofs.lemmas.List.Elements.{All-nil, All-from_recursion, recursion_from_All}
 use Rattle.dwarf_frame.specs.declared.table.FrameDescription.{FrameDescription}
 use Rattle.dwarf_frame.specs.Table.{AreUndefined, MayBeLost, is_fixed}
 use Rattle.dwarf_line_table.specs.Files.{with_new, first_uses}
-use Rattle.debug_placement.specs.Lines.{line_pieces}
+use Rattle.dwarf_line_table.proofs.FirstUses.{uses_append}
+use Rattle.prologue_lines.specs.Pieces.{line_pieces}
 use Rattle.entry_placement.specs.Pieces.{unit_pieces}
 use Rattle.entry_placement.specs.dwarf_entry.declared.abbreviation.Abbreviation.{Abbreviation}
 use Rattle.entry_placement.specs.dwarf_entry.declared.tree.TreeItem.{TreeItem}
@@ -20,20 +21,24 @@ use Rattle.elf_object.specs.declared.symbols.Symbol.{Symbol}
 use Rattle.elf_object.specs.Grammar.{IsName, IsNamed, IsAligned, IsObject}
 use Rattle.elf_object.specs.Relocations.{FitsRelocation}
 use Rattle.elf_object.specs.Spelling.{spelling}
-use Rattle.elf_object.specs.Symbols.{none_local, locals_first, LocalsFirst, symbol_table, symbol_names, FitsSymbol}
+use Rattle.elf_object.specs.declared.symbols.Binding.{Binding}
+use Rattle.elf_object.specs.declared.symbols.Binding.TheVariants.{Local, Global, Weak}
+use Rattle.elf_object.specs.Symbols.{is_local, none_local, locals_first, LocalsFirst, symbol_table, symbol_names, FitsSymbol}
 use Rattle.elf_linkable.specs.declared.section.LinkableSection.{LinkableSection}
 use Rattle.elf_linkable.specs.Linkable.{section_symbols, content_section, relocation_section_if, relocation_sections, stack_section, symbol_section}
 use Rattle.elf_linkable.specs.Linkable.{name_section, table_index, object_of, IsLinkableFile}
 use Rattle.listing_text.specs.declared.output.ListedFunction.{ListedFunction}
 use Rattle.listing_text.specs.declared.output.Output.{Output}
+use Rattle.read_linkage.specs.declared.linkage.LinkedName.{LinkedName}
 use Rattle.object_command.specs.declared.object.ObjectError.{ObjectError}
 use Rattle.object_command.specs.Object.{defined_symbol, have_one_name, IsSymbolName}
-use Rattle.object_command.proofs.GlobalSymbols.{none_append, none_used, none_defined, first_of}
+use Rattle.object_command.proofs.GlobalSymbols.{none_append, none_more, none_parts, first_of}
 use Rattle.object_command.proofs.ObjectLemmas.{string}
 use Rattle.object_command.proofs.SizeLemmas.{within_file, through, length-table}
 use Rattle.linkable_command.specs.declared.reference.Reference.{Reference}
 use Rattle.linkable_command.specs.declared.tables.DebugTables.{DebugTables}
 use Rattle.linkable_command.specs.References.{references}
+use Rattle.linkable_command.specs.Symbols.{binding_named, with_binding, is_wanted, if_wanted, bound_symbol, bound_symbols, function_symbols}
 use Rattle.linkable_command.specs.Symbols.{undefined_symbol, named_symbols}
 use Rattle.linkable_command.specs.Linkable.{TEXT, LOST, unit_sections, content_of, plain_content, text_section, debug_section}
 use Rattle.linkable_command.specs.Linkable.{declaration_section, entry_section, frame_sections, sections_by, sections_of, symbols_of}
@@ -162,19 +167,87 @@ none_undefined : (rs : List Reference) → none_local (map undefined_symbol rs) 
 none_undefined [] = refl
 none_undefined (r ∷ rs) = none_undefined rs
 
-none_named : (functions : List ListedFunction) → none_local (named_symbols functions) ≡ true
-none_named functions =
-    none_used [] (map defined_symbol functions ++ map undefined_symbol (references functions)) refl
-    (none_append (map defined_symbol functions) (map undefined_symbol (references functions)) (none_defined functions)
-    (none_undefined (references functions)))
+-- the symbols of functions are local, or none of them is
+abbrev AreLocal : List Symbol → Type 0
+AreLocal ss = AllByRecursion (λ s. is_local s.binding ≡ true) ss
+
+local_append : (ss more : List Symbol) → AreLocal ss → AreLocal more → AreLocal (ss ++ more)
+local_append [] more all others = others
+local_append (s ∷ ss) more all others = (all.0, local_append ss more all.1 others)
+
+local_used : (known ss : List Symbol) → AreLocal known → AreLocal ss → AreLocal (first_uses have_one_name known ss)
+local_used known [] all others = all
+local_used known (s ∷ ss) all others = local_used (with_new have_one_name known s) ss (by (list_any (have_one_name s) known)) others.1
+  where
+    by : (b : Bool) → AreLocal (if b then known else known ++ s ∷ [])
+    by true = all
+    by false = local_append known (s ∷ []) all (others.0, tt)
+
+module _ (linkages : List LinkedName) where
+  bound_local : (functions : List ListedFunction) → AreLocal (bound_symbols true linkages functions)
+  bound_local [] = tt
+  bound_local (f ∷ functions) =
+      local_append (bound_symbol true linkages f) (bound_symbols true linkages functions) (by (binding_named linkages f.name)) (bound_local functions)
+    where
+      by : (b : Binding) → AreLocal (if_wanted (is_local b) (with_binding b (defined_symbol f)))
+      by Local = (refl, tt)
+      by Global = tt
+      by Weak = tt
+
+  bound_none : (functions : List ListedFunction) → none_local (bound_symbols false linkages functions) ≡ true
+  bound_none [] = refl
+  bound_none (f ∷ functions) =
+      none_append (bound_symbol false linkages f) (bound_symbols false linkages functions) (by (binding_named linkages f.name)) (bound_none functions)
+    where
+      by : (b : Binding) → none_local (if_wanted (not (is_local b)) (with_binding b (defined_symbol f))) ≡ true
+      by Local = refl
+      by Global = refl
+      by Weak = refl
+
+-- local symbols stand first
+first_append : (ss more : List Symbol) → locals_first ss ≡ true → none_local more ≡ true → locals_first (ss ++ more) ≡ true
+first_append [] more first none = first_of more none
+first_append (s ∷ ss) more first none = by (is_local s.binding) first (λ e. first_append ss more e none) (λ e. none_append ss more e none)
+  where
+    by : (b : Bool) → (if b then locals_first ss else none_local ss) ≡ true → (locals_first ss ≡ true → locals_first (ss ++ more) ≡ true)
+        → (none_local ss ≡ true → none_local (ss ++ more) ≡ true) → (if b then locals_first (ss ++ more) else none_local (ss ++ more)) ≡ true
+    by true e firsts nones = firsts e
+    by false e firsts nones = nones e
+
+first_used : (known ss : List Symbol) → locals_first known ≡ true → none_local ss ≡ true → locals_first (first_uses have_one_name known ss) ≡ true
+first_used known [] first none = first
+first_used known (s ∷ ss) first none =
+    let parts = none_parts s ss none in
+    first_used (with_new have_one_name known s) ss (by parts.0 (list_any (have_one_name s) known)) parts.1
+  where
+    by : is_local s.binding ≡ false → (b : Bool) → locals_first (if b then known else known ++ s ∷ []) ≡ true
+    by e true = first
+    by e false = first_append known (s ∷ []) first (none_more s [] e refl)
+
+all_local : (ss : List Symbol) → AreLocal ss → locals_first ss ≡ true
+all_local [] all = refl
+all_local (s ∷ ss) all = ap (λ b. if b then locals_first ss else none_local ss) all.0 ∙ all_local ss all.1
+
+named_first : (linkages : List LinkedName) (functions : List ListedFunction) → locals_first (named_symbols linkages functions) ≡ true
+named_first linkages functions =
+    let first : List Symbol = bound_symbols true linkages functions in
+    let others : List Symbol = bound_symbols false linkages functions in
+    let undefined : List Symbol = map undefined_symbol (references functions) in
+    let begun : List Symbol = first_uses have_one_name [] first in
+    ap locals_first (uses_append have_one_name [] (first ++ others) undefined
+    ∙ ap (λ (ss : List Symbol). first_uses have_one_name ss undefined) (uses_append have_one_name [] first others))
+    ∙ first_used (first_uses have_one_name begun others) undefined
+    (first_used begun others (all_local begun (local_used [] first tt (bound_local linkages functions))) (bound_none linkages functions))
+    (none_undefined (references functions))
 
 behind_sections : (k : ℕ) (sections : List LinkableSection) (ss : List Symbol) → locals_first ss ≡ true
     → locals_first (section_symbols k sections ++ ss) ≡ true
 behind_sections k [] ss first = first
 behind_sections k (s ∷ sections) ss first = behind_sections (suc k) sections ss first
 
-pub locals : (sections : List LinkableSection) (functions : List ListedFunction) → LocalsFirst (section_symbols 1 sections ++ named_symbols functions)
-locals sections functions = behind_sections 1 sections (named_symbols functions) (first_of (named_symbols functions) (none_named functions))
+pub locals : (sections : List LinkableSection) (linkages : List LinkedName) (functions : List ListedFunction)
+    → LocalsFirst (section_symbols 1 sections ++ named_symbols linkages functions)
+locals sections linkages functions = behind_sections 1 sections (named_symbols linkages functions) (named_first linkages functions)
 
 abbrev IsNamedSymbol : Symbol → Type 0
 IsNamedSymbol s = IsName s.name
@@ -200,10 +273,22 @@ all_append : (ss more : List Symbol) → AllByRecursion IsNamedSymbol ss → All
 all_append [] more all others = others
 all_append (s ∷ ss) more all others = (all.0, all_append ss more all.1 others)
 
-all_defined : (functions : List ListedFunction) → AllByRecursion (λ f. IsSymbolName f.name) functions
-    → AllByRecursion IsNamedSymbol (map defined_symbol functions)
-all_defined [] all = tt
-all_defined (f ∷ functions) all = (all.0.string, all_defined functions all.1)
+all_bound : (local : Bool) (linkages : List LinkedName) (functions : List ListedFunction) → AllByRecursion (λ f. IsSymbolName f.name) functions
+    → AllByRecursion IsNamedSymbol (bound_symbols local linkages functions)
+all_bound local linkages [] all = tt
+all_bound local linkages (f ∷ functions) all =
+    all_append (bound_symbol local linkages f) (bound_symbols local linkages functions)
+    (by (is_wanted local (is_local (binding_named linkages f.name)))) (all_bound local linkages functions all.1)
+  where
+    by : (b : Bool) → AllByRecursion IsNamedSymbol (if_wanted b (with_binding (binding_named linkages f.name) (defined_symbol f)))
+    by true = (all.0.string, tt)
+    by false = tt
+
+all_defined : (linkages : List LinkedName) (functions : List ListedFunction) → AllByRecursion (λ f. IsSymbolName f.name) functions
+    → AllByRecursion IsNamedSymbol (function_symbols linkages functions)
+all_defined linkages functions all =
+    all_append (bound_symbols true linkages functions) (bound_symbols false linkages functions) (all_bound true linkages functions all)
+    (all_bound false linkages functions all)
 
 all_referred : (rs : List Reference) → AllByRecursion (λ r. IsSymbolName r.name) rs → AllByRecursion IsNamedSymbol (map undefined_symbol rs)
 all_referred [] all = tt
@@ -214,13 +299,14 @@ all_sections : (k : ℕ) (sections : List LinkableSection) (ss : List Symbol) �
 all_sections k [] ss all = all
 all_sections k (s ∷ sections) ss all = (All-nil (λ (byte : ℕ). 0 < byte), all_sections (suc k) sections ss all)
 
-pub symbols_named : (sections : List LinkableSection) (functions : List ListedFunction) → HaveLinkableNames functions
-    → All (λ s. IsName s.name) (section_symbols 1 sections ++ named_symbols functions)
-symbols_named sections functions names =
-    All-from_recursion IsNamedSymbol (section_symbols 1 sections ++ named_symbols functions) (all_sections 1 sections (named_symbols functions)
-    (all_used [] (map defined_symbol functions ++ map undefined_symbol (references functions)) tt
-    (all_append (map defined_symbol functions) (map undefined_symbol (references functions))
-    (all_defined functions (recursion_from_All (λ f. IsSymbolName f.name) functions names.defined))
+pub symbols_named : (sections : List LinkableSection) (linkages : List LinkedName) (functions : List ListedFunction) → HaveLinkableNames functions
+    → All (λ s. IsName s.name) (section_symbols 1 sections ++ named_symbols linkages functions)
+symbols_named sections linkages functions names =
+    All-from_recursion IsNamedSymbol (section_symbols 1 sections ++ named_symbols linkages functions)
+    (all_sections 1 sections (named_symbols linkages functions)
+    (all_used [] (function_symbols linkages functions ++ map undefined_symbol (references functions)) tt
+    (all_append (function_symbols linkages functions) (map undefined_symbol (references functions))
+    (all_defined linkages functions (recursion_from_All (λ f. IsSymbolName f.name) functions names.defined))
     (all_referred (references functions) (recursion_from_All (λ r. IsSymbolName r.name) (references functions) names.referred)))))
 
 -- ---- the object

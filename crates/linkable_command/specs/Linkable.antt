@@ -3,7 +3,6 @@ use Rattle.std.specs.Prelude.{ℕ, ◌+◌, ◌<◌, ◌≤◌, ◌^◌, List, [
 use Rattle.dwarf_frame.specs.declared.table.FrameDescription.{FrameDescription}
 use Rattle.dwarf_frame.specs.Spelling.{spelling as frame_spelling}
 use Rattle.dwarf_frame.specs.Table.{IsDescription}
-use Rattle.dwarf_line.specs.Spelling.{spelling as rows_spelling}
 use Rattle.dwarf_line.specs.Table.{HasNames, IsSequence}
 use Rattle.listing_text.specs.declared.output.ListedFunction.{ListedFunction}
 use Rattle.listing_text.specs.declared.output.Output.{Output}
@@ -17,7 +16,8 @@ use Rattle.elf_content.specs.Content.{written, relocations_from}
 use Rattle.elf_linkable.specs.declared.section.LinkableSection.{LinkableSection}
 use Rattle.elf_linkable.specs.Linkable.{object_of, section_symbols, IsLinkableFile}
 use Rattle.debug_placement.specs.Frames.{frame_pieces}
-use Rattle.debug_placement.specs.Lines.{line_pieces}
+use Rattle.prologue_lines.specs.Pieces.{line_pieces}
+use Rattle.prologue_lines.specs.Spelling.{spelling as rows_spelling}
 use Rattle.entry_placement.specs.declared.content.SectionSymbols.{SectionSymbols}
 use Rattle.entry_placement.specs.Pieces.{unit_pieces}
 use Rattle.entry_placement.specs.dwarf_entry.declared.tree.TreeItem.{TreeItem}
@@ -113,15 +113,15 @@ sections_by relocations text lists t =
 
 -- the relocations of an output's machine code
 abbrev pub output_relocations : Output → DebugTables → List Relocation
-output_relocations o t = code_relocations (section_count t.frames) o.functions
+output_relocations o t = code_relocations (section_count t.frames) t.linkages o.functions
 
 -- the sections of an output, with these location lists
 abbrev pub sections_of : Output → (lists : List ℕ) → DebugTables → List LinkableSection
 sections_of o lists t = sections_by (output_relocations o t) o.text lists t
 
--- the symbols: those of the sections, and those of functions and other names
+-- the symbols: those of the sections, and those of functions, with the bindings of their linkages, and of other names
 abbrev pub symbols_of : Output → (lists : List ℕ) → DebugTables → List Symbol
-symbols_of o lists t = section_symbols 1 (sections_of o lists t) ++ named_symbols o.functions
+symbols_of o lists t = section_symbols 1 (sections_of o lists t) ++ named_symbols t.linkages o.functions
 
 -- ---- the object
 

@@ -3,8 +3,10 @@
 #![tactic(auto)]
 
 pub use entry_placement as entry_placement_crate;
+pub use read_linkage as read_linkage_crate;
 
 mod fits;
+mod functions;
 mod names;
 pub mod object;
 pub mod reference;

@@ -70,7 +70,14 @@ fn write(
     ensures too_large { IsErrOf result ObjectError.TooLarge → HasLargeLinkable flags output lists t.now }
 {
     let before = section_count(&t.frames);
-    match link(alloc, before, output.functions.as_slice(), referred) {
+    let linkages = t.linkages.as_slice();
+    match link(
+        alloc,
+        before,
+        linkages,
+        output.functions.as_slice(),
+        referred,
+    ) {
         Ok((named, relocations)) => linked(alloc, flags, output, lists, t, named, relocations),
         Err(error) => Err(error),
     }
@@ -88,7 +95,7 @@ fn linked(
 ) -> Result<Bytes, ObjectError>
     requires tables { AreWritable t.now }
     requires names { HaveLinkableNames output.functions }
-    requires symbols { named ≡ named_symbols output.functions }
+    requires symbols { named ≡ named_symbols t.now.linkages output.functions }
     requires relocations { relocations ≡ output_relocations output t.now }
     ensures object { IfOk result (IsLinkableObject flags output lists t.now) }
     ensures named { IsErrOf result ObjectError.SymbolName → ⊥ }

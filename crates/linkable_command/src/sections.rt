@@ -4,10 +4,10 @@ ghost use Rattle.std.specs.Prelude.{◌≡◌, ◌<◌, ◌≤◌, ◌^◌, ◌+
 ghost use Rattle.dwarf_frame.specs.Spelling.{spelling as frame_spelling};
 ghost use Rattle.dwarf_frame.specs.Table.{IsDescription};
 ghost use Rattle.linkable_command.specs.Linkable;
-ghost use Rattle.dwarf_line.specs.Spelling.{spelling as rows_spelling};
 ghost use Rattle.dwarf_line.specs.Table.{HasNames, IsSequence};
 ghost use Rattle.debug_placement.specs.Frames;
-ghost use Rattle.debug_placement.specs.Lines;
+ghost use Rattle.prologue_lines.specs.Pieces;
+ghost use Rattle.prologue_lines.specs.Spelling.{spelling as rows_spelling};
 ghost use Rattle.entry_placement.specs.Pieces.{unit_pieces};
 ghost use Rattle.entry_placement.specs.dwarf_entry.Declarations.{abbreviation_section};
 ghost use Rattle.entry_placement.specs.dwarf_entry.Entries.{spelling as entries_spelling, RefersWithin};
@@ -16,7 +16,6 @@ ghost use Rattle.linkable_command.specs.Linkable.{sections_by, unit_sections, Ar
 
 use crate::tables::{DebugTables, FrameDescriptions};
 use debug_content::frames::frame_pieces;
-use debug_content::lines::line_pieces;
 use dwarf_frame::table::FrameDescription;
 use dwarf_line::table::LineTable;
 use elf_content::content::{Content, Relocations, make_content};
@@ -30,6 +29,7 @@ use entry_placement::dwarf_entry_crate::abbreviation::{
 };
 use entry_placement::dwarf_entry_crate::size::entries_size;
 use entry_placement::dwarf_entry_crate::tree::TreeItem;
+use prologue_lines::section::line_pieces;
 use std::alloc::{AllocError, Global};
 
 static TEXT_NAME: [u8; 5] = *b".text";
@@ -167,7 +167,7 @@ fn row_section(alloc: Global, rows: &LineTable) -> Result<LinkableSection, Alloc
     requires sequences { All IsSequence rows.now.sequences }
     requires size { length (rows_spelling rows.now) < 2 ^ 31 }
     ensures { IfOk result (λ s. s
-        ≡ Linkable.debug_section (codes ".debug_line") (content_of (Lines.line_pieces Linkable.TEXT rows.now))) }
+        ≡ Linkable.debug_section (codes ".debug_line") (content_of (Pieces.line_pieces Linkable.TEXT rows.now))) }
 {
     let pieces = line_pieces(alloc, TEXT, rows)?;
     piece_section(alloc, &LINE, pieces.as_slice())

@@ -6,6 +6,7 @@ ghost use Rattle.object_command.specs.Object.{have_one_name};
 ghost use Rattle.linkable_command.specs.References.{references};
 ghost use Rattle.linkable_command.specs.Symbols.{code_relocations, named_symbols, relocation_by, undefined_symbol};
 
+use crate::functions::push_bound;
 use crate::reference::Reference;
 use dwarf_line_table::names::NameTable;
 use elf_content::content::Relocations;
@@ -15,27 +16,30 @@ use elf_object::relocations::Relocation;
 use elf_object::symbols::{Binding, Symbol, SymbolType};
 use listing_text::output::ListedFunction;
 use object_command::object::ObjectError;
-use object_command::symbols::{MAX_SYMBOLS, number, push_functions};
+use object_command::symbols::{MAX_SYMBOLS, number};
+use read_linkage::linkage::LinkedName;
 use std::alloc::{AllocError, Global};
 
-/// The symbols of functions and of the names to which they refer, and the relocations of these references, where the
-/// symbols stand behind `before` others. The error `TooLarge` is that there are more than 2^27 symbols.
+/// The symbols of functions with these linkages and of the names to which they refer, and the relocations of these
+/// references, where the symbols stand behind `before` others. The error `TooLarge` is that there are more than 2^27 symbols.
 pub fn link(
     alloc: Global,
     before: u32,
+    linkages: &[LinkedName],
     functions: &[ListedFunction],
     referred: &[Reference],
 ) -> Result<(Symbols, Relocations), ObjectError>
     requires referred { referred.now ≡ references functions.now }
     requires few { before < 2 ^ 15 }
-    ensures symbols { IfOk result (λ r. r.0 ≡ named_symbols functions.now) }
-    ensures relocations { IfOk result (λ r. r.1 ≡ code_relocations before functions.now) }
-    ensures too_large { IsErrOf result ObjectError.TooLarge → 2 ^ 27 ≤ length (named_symbols functions.now) }
+    ensures symbols { IfOk result (λ r. r.0 ≡ named_symbols linkages.now functions.now) }
+    ensures relocations { IfOk result (λ r. r.1 ≡ code_relocations before linkages.now functions.now) }
+    ensures too_large { IsErrOf result ObjectError.TooLarge → 2 ^ 27 ≤ length (named_symbols linkages.now functions.now) }
     ensures named { IsErrOf result ObjectError.SymbolName → ⊥ }
 {
     let mut names = NameTable::new(alloc);
     let mut symbols = Symbols::new(alloc);
-    push_functions(alloc, &mut names, &mut symbols, functions)?;
+    push_bound(alloc, &mut names, &mut symbols, true, linkages, functions)?;
+    push_bound(alloc, &mut names, &mut symbols, false, linkages, functions)?;
     let relocations = push_references(alloc, before, &mut names, &mut symbols, referred)?;
     Ok((symbols, relocations))
 }

@@ -37,17 +37,17 @@ use Rattle.elf_linkable.specs.Linkable.{section_symbols}
 use Rattle.elf_linkable.specs.declared.section.LinkableSection.{LinkableSection}
 use Rattle.rv64_relocation.specs.Code.{half_kind, kind_by}
 use Rattle.debug_placement.proofs.FrameProofs.{frames_placed}
-use Rattle.debug_placement.proofs.LineProofs.{lines_placed}
+use Rattle.prologue_lines.proofs.Placed.{lines_placed}
 use Rattle.entry_placement.proofs.Placing.{entries_placed, abbreviations_moved}
 use Rattle.entry_placement.specs.dwarf_entry.Declarations.{abbreviations_of}
 use Rattle.text_placement.specs.Placed.{SymbolPlaces, PlacedLine, site_name, way_name, callee_name, relocations_by, line_relocations, Lie}
 use Rattle.text_placement.specs.Placed.{HasNumber, IsPlacedLine, AreLines, NamesFunctions, text_relocations}
 use Rattle.text_placement.proofs.LineProofs.{lines_placed as lines_run}
-use Rattle.object_command.specs.Object.{defined_symbol, have_one_name}
+use Rattle.object_command.specs.Object.{have_one_name}
 use Rattle.linkable_command.specs.declared.reference.Reference.{Reference}
 use Rattle.linkable_command.specs.declared.tables.DebugTables.{DebugTables}
 use Rattle.linkable_command.specs.References.{reference_by, line_references, references_in, references}
-use Rattle.linkable_command.specs.Symbols.{undefined_symbol, named_symbols, relocation_by}
+use Rattle.linkable_command.specs.Symbols.{function_symbols, undefined_symbol, named_symbols, relocation_by}
 use Rattle.linkable_command.specs.Linkable.{TEXT, ENTRIES, ROWS, FRAME, LOST, section_count, unit_sections, plain_content, debug_section, frame_sections}
 use Rattle.linkable_command.specs.Linkable.{sections_of, symbols_of, output_relocations, AreWritable}
 use Rattle.linkable_placement.specs.Placement.{Placement, base_of, address_of, addresses_of, places_of, placed_line, output_lines, FramesFit}
@@ -230,7 +230,7 @@ module _ (names : ℕ → List ℕ) (sources : List SourceFunction) (o : Output)
   before = section_count t.frames
 
   abbrev named : List Symbol
-  named = named_symbols o.functions
+  named = named_symbols t.linkages o.functions
 
   symbols_counted : before + length named ≡ length addresses
   symbols_counted =
@@ -252,8 +252,8 @@ module _ (names : ℕ → List ℕ) (sources : List SourceFunction) (o : Output)
   all_numbered =
       subst (All (HasNumber (length addresses))) same
       (All-from_recursion (HasNumber (length addresses)) (map (relocation_by before named) (references o.functions))
-      (numbered before (length addresses) (first_uses have_one_name [] (map defined_symbol o.functions)) (references o.functions) named
-      (sym (uses_append have_one_name [] (map defined_symbol o.functions) (map undefined_symbol (references o.functions))))
+      (numbered before (length addresses) (first_uses have_one_name [] (function_symbols t.linkages o.functions)) (references o.functions) named
+      (sym (uses_append have_one_name [] (function_symbols t.linkages o.functions) (map undefined_symbol (references o.functions))))
       (omega (arith, symbols_counted))))
 
   lie : Lie 0 (output_lines o t) (length o.text)

@@ -2,7 +2,6 @@
 use Rattle.std.specs.Prelude.{◌≡◌, ℕ, ◌+◌, ◌-◌, ◌<◌, ◌^◌, List, length, map, cond, nat_eq, slice_index, All, Option, Some, None}
 use Rattle.std.specs.List.{flat_map, position_or_len}
 use Rattle.dwarf_frame.specs.declared.table.FrameDescription.{FrameDescription}
-use Rattle.dwarf_line.specs.Spelling.{spelling as rows_spelling}
 use Rattle.dwarf_line_table.specs.Files.{is_name}
 use Rattle.listing_text.specs.declared.output.Output.{Output}
 use Rattle.compile_theorem.specs.listing_meaning.Program.{image_of}
@@ -15,7 +14,9 @@ use Rattle.elf_content.specs.Content.{symbol_address}
 use Rattle.debug_placement.specs.Frames
 use Rattle.debug_placement.specs.Frames.{frame_pieces, moved_description, spelling_by}
 use Rattle.debug_placement.specs.Lines
-use Rattle.debug_placement.specs.Lines.{line_pieces, moved_table}
+use Rattle.debug_placement.specs.Lines.{moved_table}
+use Rattle.prologue_lines.specs.Pieces.{line_pieces}
+use Rattle.prologue_lines.specs.Spelling.{spelling as rows_spelling}
 use Rattle.entry_placement.specs.Moved.{moved_tree, ItemFitsMoved}
 use Rattle.entry_placement.specs.Pieces.{symbol_of}
 use Rattle.entry_placement.specs.dwarf_entry.declared.tree.TreeItem.{TreeItem}
@@ -66,7 +67,7 @@ placed_lines places o = flat_map (λ f. map (placed_line places) (image_of o f).
 
 -- those of an object
 abbrev pub output_lines : Output → DebugTables → List PlacedLine
-output_lines o t = placed_lines (places_of (section_count t.frames) (named_symbols o.functions)) o
+output_lines o t = placed_lines (places_of (section_count t.frames) (named_symbols t.linkages o.functions)) o
 
 -- ---- what an object is there
 

@@ -13,14 +13,14 @@ use Rattle.object_command.specs.Object.{have_one_name, defined_symbol, undefined
 
 -- ---- lists without a local symbol
 
-none_parts : (s : Symbol) (ss : List Symbol) → none_local (s ∷ ss) ≡ true → (is_local s.binding ≡ false) × (none_local ss ≡ true)
+pub none_parts : (s : Symbol) (ss : List Symbol) → none_local (s ∷ ss) ≡ true → (is_local s.binding ≡ false) × (none_local ss ≡ true)
 none_parts s ss e = by (is_local s.binding) e
   where
     by : (b : Bool) → (if b then false else none_local ss) ≡ true → (b ≡ false) × (none_local ss ≡ true)
     by true none = absurd (true≢false (sym none))
     by false none = (refl, none)
 
-none_more : (s : Symbol) (ss : List Symbol) → is_local s.binding ≡ false → none_local ss ≡ true → none_local (s ∷ ss) ≡ true
+pub none_more : (s : Symbol) (ss : List Symbol) → is_local s.binding ≡ false → none_local ss ≡ true → none_local (s ∷ ss) ≡ true
 none_more s ss e none = ap (λ b. if b then false else none_local ss) e ∙ none
 
 pub none_append : (ss more : List Symbol) → none_local ss ≡ true → none_local more ≡ true → none_local (ss ++ more) ≡ true

@@ -32,6 +32,8 @@ mod prologue_sections;
 #[cfg(test)]
 mod range_lists;
 #[cfg(test)]
+mod source_lines;
+#[cfg(test)]
 mod symbol_tables;
 #[cfg(test)]
 mod table;

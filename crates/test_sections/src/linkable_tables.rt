@@ -4,7 +4,7 @@ ghost use Rattle.std.specs.Prelude.{◌<◌, ◌^◌, length, All, IfOk, IfSome,
 ghost use Rattle.dwarf_frame.specs.Spelling.{spelling as frame_spelling};
 ghost use Rattle.dwarf_frame.specs.Table.{IsDescription};
 ghost use Rattle.linkable_command.specs.entry_placement.dwarf_entry.Entries.{RefersWithin};
-ghost use Rattle.dwarf_line.specs.Spelling.{spelling as rows_spelling};
+ghost use Rattle.prologue_lines.specs.Spelling.{spelling as rows_spelling};
 ghost use Rattle.dwarf_line.specs.Table.{HasNames, IsSequence};
 ghost use Rattle.linkable_command.specs.Linkable.{entry_bytes, LOST};
 
@@ -16,11 +16,11 @@ use crate::table::{are_named, are_names, are_sequences};
 use base_list::List;
 use dwarf_frame::size::frame_size;
 use dwarf_frame::table::FrameDescription;
-use dwarf_line::size::line_size;
 use dwarf_line::table::{LineTable, Row, Sequence};
 use linkable_command::entry_placement_crate::dwarf_entry_crate::tree::TreeItem;
 use linkable_command::sections::{LOST_REGISTERS, entry_size};
 use linkable_command::tables::{DebugTables, FrameDescriptions};
+use prologue_lines::section::line_size;
 use std::alloc::{AllocError, Global};
 
 /// The bytes of `.debug_rnglists`, without a list.
@@ -63,6 +63,7 @@ pub(crate) fn tables_of(alloc: Global) -> Result<DebugTables, AllocError> {
         rows: rows_of(alloc)?,
         frames: Some(frames_of(alloc)?),
         ranges: List::from_slice(alloc, &RANGES)?,
+        linkages: List::new(alloc),
     })
 }
 

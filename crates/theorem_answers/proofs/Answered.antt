@@ -1,10 +1,11 @@
 -- Nothing refuses the program of a generated function: its frame and its sections are within their limits, and `compile` asks for no more
 -- without `.debug_frame`.
-use Rattle.std.proofs.Common.{◌≢◌, ℕ, ◌≤◌, Bool, false, [], Ok, length, refl, ap, sym, subst, arith}
+use Rattle.std.proofs.Common.{◌≢◌, ℕ, ◌≤◌, Bool, false, List, [], Ok, length, refl, ap, sym, subst, arith}
 use Rattle.cli.specs.declared.command.PassPipeline.{PassPipeline}
 use Rattle.cli.specs.declared.command.Command.TheVariants.{Strip}
 use Rattle.cli.specs.declared.fault.Fault.{Fault}
 use Rattle.mir_func_printer.specs.FuncText.{func_text}
+use Rattle.tool_driver.specs.Answer.{Line, block_lines}
 use Rattle.read_program.specs.declared.program.Program.{Program}
 use Rattle.read_program.specs.Program.{ReadsText}
 use Rattle.gen_function.specs.Generator.{generated}
@@ -14,7 +15,8 @@ use Rattle.tool_driver.proofs.Frames.{generated_frames_are_small}
 use Rattle.tool_driver.proofs.Registers.{generated_have_registers}
 use Rattle.tool_driver.proofs.Sections.{generated_sections_are_small}
 use Rattle.tool_driver.specs.Refusals.{RefusesProgram, unknown_function, no_register, frame_too_large, section_too_large}
-use Rattle.tool_driver.specs.Refusals.{frame_section_too_large, inlined_section_too_large, object_too_large, no_symbol_name, answers}
+use Rattle.tool_driver.specs.Refusals.{frame_section_too_large, inlined_section_too_large, object_too_large, no_symbol_name, RefusesLines, linkable_too_large}
+use Rattle.tool_driver.specs.Refusals.{answers}
 use Rattle.tool_driver.specs.Limits.{INPUT_LIMIT}
 use Rattle.theorem_gen_text.specs.Laws.{program_of_text}
 use Rattle.theorem_gen_text.proofs.Texts.{generated_documents_are_read, generated_texts_are_read}
@@ -33,8 +35,11 @@ no_cause number count plan some few (section_too_large other same named large) =
     generated_sections_are_small number count other.reserve other.passes some few large
 no_cause number count plan some few (frame_section_too_large asked same framed large) = absurd cc
 no_cause number count plan some few (inlined_section_too_large asked same inlined large) = absurd cc
-no_cause number count plan some few (object_too_large other same large) = absurd cc
+no_cause number count plan some few (object_too_large other same plain large) = absurd cc
 no_cause number count plan some few (no_symbol_name other same invalid) = absurd cc
+
+no_lines : {fault : Fault} (lines : List Line) (program : Program) (plan : PassPipeline) → RefusesLines (compile_by plan) lines program fault → ⊥
+no_lines lines program plan (linkable_too_large asked form same is large) = absurd cc
 
 pub programs_are_answered : GeneratedProgramsAreAnswered
 programs_are_answered number count plan some few fault refused = no_cause number count plan some few refused
@@ -46,7 +51,7 @@ pub texts_are_answerable : GeneratedTextsAreAnswerable
 texts_are_answerable number count plan text some few within reads =
     answers (generated_program number count) tt
     (record { text = text; told = refl; within = within; has = record { reads = reads; some = has_function number count } })
-    (programs_are_answered number count plan some few)
+    (programs_are_answered number count plan some few) (λ fault refused. no_lines (block_lines plan.linked text) (generated_program number count) plan refused)
 
 -- ---- the texts
 
@@ -67,8 +72,11 @@ none_stripped program (frame_too_large plan same named registers large) = absurd
 none_stripped program (section_too_large plan same named large) = absurd cc
 none_stripped program (frame_section_too_large asked same framed large) = absurd cc
 none_stripped program (inlined_section_too_large asked same inlined large) = absurd cc
-none_stripped program (object_too_large plan same large) = absurd cc
+none_stripped program (object_too_large plan same plain large) = absurd cc
 none_stripped program (no_symbol_name plan same invalid) = absurd cc
+
+no_lines_stripped : {fault : Fault} (lines : List Line) (program : Program) → RefusesLines (Strip false) lines program fault → ⊥
+no_lines_stripped lines program (linkable_too_large asked form same is large) = absurd cc
 
 text_has_function : (number count : ℕ) → (program_of_text number count).functions ≢ []
 text_has_function number count none = let long = ap length none in absurd (omega (arith, long))
@@ -84,3 +92,4 @@ texts_are_stripped number count some few =
       has = record { reads = generated_texts_are_read number count some few; some = text_has_function number count };
     })
     (λ fault refused. none_stripped (program_of_text number count) refused)
+    (λ fault refused. no_lines_stripped (block_lines false text) (program_of_text number count) refused)

@@ -1,9 +1,11 @@
 -- What a command writes of an input, by what it writes of the program that was read.
-use Rattle.std.specs.Prelude.{Some, Result, Ok, Err, IfOk, IfErr, Bool, true}
-use Rattle.std.proofs.Common.{◌≡◌, ◌⊎◌, ℕ, List, refl, sym, subst, inl, inr}
+use Rattle.std.specs.Prelude.{Option, Some, None, Result, Ok, Err, IfOk, IfErr, Bool, true}
+use Rattle.std.proofs.Common.{◌≡◌, ◌⊎◌, ℕ, List, [], refl, sym, subst, inl, inr}
+use Rattle.read_metadata.specs.read_lexer.declared.line.Line.{Line}
 use Rattle.read_program.specs.declared.program.Program.{Program}
 use Rattle.cli.specs.declared.command.Command.{Command}
 use Rattle.cli.specs.declared.command.CompilePlan.{CompilePlan}
+use Rattle.cli.specs.declared.command.LinkableForm.{LinkableForm}
 use Rattle.cli.specs.declared.command.ObjectPlan.{ObjectPlan}
 use Rattle.cli.specs.declared.command.PassPipeline.{PassPipeline}
 use Rattle.cli.specs.declared.command.RunPlan.{RunPlan}
@@ -14,20 +16,20 @@ use Rattle.cli.specs.declared.fault.Fault.TheVariants.{Usage, Read, TooLong, Ref
 use Rattle.cli.specs.declared.fault.Fault.TheVariants.{NoRegister, FrameTooLarge, SymbolName, SectionTooLarge, Write, Memory}
 use Rattle.selftest_command.specs.run_command.Source.{IsUnknown}
 use Rattle.selftest_command.specs.run_command.Program.{ExposedSteps, HasLargeSection, HasLargeFrameSection, HasLargeInlinedSection}
-use Rattle.tool_driver.specs.Answer.{is_linked, Answers, IsTestText}
-use Rattle.tool_driver.specs.Run.{HasReadProgram, AnswersRead, AnswersInput}
+use Rattle.tool_driver.specs.Answer.{is_linked, block_lines, Answers, IsTestText}
+use Rattle.tool_driver.specs.Run.{HasReadProgram, HasReadLines, AnswersRead, AnswersInput}
 use Rattle.tool_driver.specs.Refusals.{IsReader, IsNamed, plan_of, RefusesProgram, no_register, frame_too_large, section_too_large, frame_section_too_large}
 use Rattle.tool_driver.specs.Refusals.{inlined_section_too_large}
-use Rattle.tool_driver.specs.Refusals.{too_long, refused_at, no_function, refused_program}
-use Rattle.tool_driver.specs.steps.Ends.{RefusesToCompile, RefusesToWrite, HasReadNone, ReadingEnds}
+use Rattle.tool_driver.specs.Refusals.{RefusesLines, linkable_too_large, too_long, refused_at, no_function, refused_program, refused_lines}
+use Rattle.tool_driver.specs.steps.Ends.{RefusesToCompile, RefusesToWrite, RefusesToWriteOf, HasReadNone, ReadingEnds}
 use Rattle.tool_driver.specs.Stream.{Change, IsUnread}
-use Rattle.tool_driver.specs.Compiled.{plan_steps}
+use Rattle.tool_driver.specs.Compiled.{plan_steps, IsObjectFile, IsLinkableFileOf, IsObjectAsked}
 
 -- ---- a program was read
 
 -- what a command writes of it
-read_answers : (command : Command) (input : Change) (program : Program) → HasReadProgram (is_linked command) input program → (output : List ℕ) →
-    Answers command program output → AnswersRead command input output
+read_answers : (command : Command) (input : Change) (program : Program) (read : HasReadProgram (is_linked command) input program) (output : List ℕ) →
+    Answers command (block_lines (is_linked command) read.text) program output → AnswersRead command input output
 read_answers command input program read output answers =
     record { text = read.text; read = read.read; answers = record { program = program; has = read.has; answers = answers } }
 
@@ -119,7 +121,7 @@ run_named run program known other same unknown =
     known (subst (λ (r : RunPlan). IsUnknown r.name program.functions) (sym one) unknown)
 
 module _ (asked : CompilePlan) (input : Change) (program : Program) (read : HasReadProgram asked.plan.linked input program) where
-  pub compile_ok : (r : Result (List ℕ) Fault) → IfOk r (Answers (Compile asked) program) → IfOk r (AnswersInput (Compile asked) input)
+  pub compile_ok : (r : Result (List ℕ) Fault) → IfOk r (Answers (Compile asked) [] program) → IfOk r (AnswersInput (Compile asked) input)
   compile_ok (Ok output) answers = read_answers (Compile asked) input program read output answers
   compile_ok (Err fault) answers = tt
 
@@ -128,7 +130,7 @@ module _ (asked : CompilePlan) (input : Change) (program : Program) (read : HasR
   compile_err (Err fault) refused = held_back (Compile asked) tt input program read fault refused
 
 module _ (plan : PassPipeline) (input : Change) (program : Program) (read : HasReadProgram plan.linked input program) where
-  pub listing_ok : (r : Result (List ℕ) Fault) → IfOk r (Answers (Listing plan) program) → IfOk r (AnswersInput (Listing plan) input)
+  pub listing_ok : (r : Result (List ℕ) Fault) → IfOk r (Answers (Listing plan) [] program) → IfOk r (AnswersInput (Listing plan) input)
   listing_ok (Ok output) answers = read_answers (Listing plan) input program read output answers
   listing_ok (Err fault) answers = tt
 
@@ -138,7 +140,7 @@ module _ (plan : PassPipeline) (input : Change) (program : Program) (read : HasR
       held_back (Listing plan) tt input program read fault
       (by_compiling (Listing plan) program plan refl (listing_named plan program) fault refused)
 
-  pub report_ok : (r : Result (List ℕ) Fault) → IfOk r (Answers (Report plan) program) → IfOk r (AnswersInput (Report plan) input)
+  pub report_ok : (r : Result (List ℕ) Fault) → IfOk r (Answers (Report plan) [] program) → IfOk r (AnswersInput (Report plan) input)
   report_ok (Ok output) answers = read_answers (Report plan) input program read output answers
   report_ok (Err fault) answers = tt
 
@@ -149,16 +151,39 @@ module _ (plan : PassPipeline) (input : Change) (program : Program) (read : HasR
       (by_compiling (Report plan) program plan refl (report_named plan program) fault refused)
 
 module _ (asked : ObjectPlan) (input : Change) (program : Program) (read : HasReadProgram asked.plan.linked input program) where
-  pub object_ok : (r : Result (List ℕ) Fault) → IfOk r (Answers (Object asked) program) → IfOk r (AnswersInput (Object asked) input)
-  object_ok (Ok output) answers = read_answers (Object asked) input program read output answers
-  object_ok (Err fault) answers = tt
+  pub object_ok : asked.form ≡ None → (r : Result (List ℕ) Fault) → IfOk r (IsObjectFile (plan_steps asked.plan) program)
+      → IfOk r (AnswersInput (Object asked) input)
+  object_ok plain (Ok output) file =
+      read_answers (Object asked) input program read output
+      (subst (λ (f : Option LinkableForm). IsObjectAsked f asked.plan (block_lines asked.plan.linked read.text) program output) (sym plain) file)
+  object_ok plain (Err fault) file = tt
 
   pub object_err : (r : Result (List ℕ) Fault) → IfErr r (RefusesToWrite (Object asked) program) → IfErr r (ReadingEnds (Object asked) input)
   object_err (Ok output) refused = tt
   object_err (Err fault) refused = held_back (Object asked) tt input program read fault refused
 
+module _ (asked : ObjectPlan) (form : LinkableForm) (is : asked.form ≡ Some form) (input : Change) (lines : List Line) (program : Program)
+    (read : HasReadLines asked.plan.linked input lines program) where
+  pub linkable_ok : (r : Result (List ℕ) Fault) → IfOk r (IsLinkableFileOf form asked.plan lines program) → IfOk r (AnswersInput (Object asked) input)
+  linkable_ok (Ok output) file =
+      read_answers (Object asked) input program (record { text = read.text; read = read.read; has = read.has }) output
+      (subst (λ (f : Option LinkableForm). IsObjectAsked f asked.plan (block_lines asked.plan.linked read.text) program output) (sym is)
+      (subst (λ (ls : List Line). IsLinkableFileOf form asked.plan ls program output) read.of file))
+  linkable_ok (Err fault) file = tt
+
+  by_lines : {fault : Fault} → RefusesLines (Object asked) lines program fault → ReadingEnds (Object asked) input fault
+  by_lines (linkable_too_large other shape same of large) = refused_lines lines program tt read (linkable_too_large other shape same of large)
+
+  pub linkable_err : (r : Result (List ℕ) Fault) → IfErr r (RefusesToWriteOf (Object asked) lines program) → IfErr r (ReadingEnds (Object asked) input)
+  linkable_err (Ok output) refused = tt
+  linkable_err (Err fault) refused = elim refused [
+    | inl program_refused ↦
+        held_back (Object asked) tt input program (record { text = read.text; read = read.read; has = read.has }) fault program_refused
+    | inr lines_refused ↦ by_lines lines_refused
+  ]
+
 module _ (run : RunPlan) (input : Change) (program : Program) (read : HasReadProgram run.plan.linked input program) where
-  pub run_ok : (r : Result (List ℕ) Fault) → IfOk r (Answers (Run run) program) → IfOk r (AnswersInput (Run run) input)
+  pub run_ok : (r : Result (List ℕ) Fault) → IfOk r (Answers (Run run) [] program) → IfOk r (AnswersInput (Run run) input)
   run_ok (Ok output) answers = read_answers (Run run) input program read output answers
   run_ok (Err fault) answers = tt
 
@@ -169,7 +194,7 @@ module _ (run : RunPlan) (input : Change) (program : Program) (read : HasReadPro
 -- ---- the others
 
 pub strip_ok : (linked : Bool) (input : Change) (program : Program) (output : List ℕ) → HasReadProgram linked input program →
-    Answers (Strip linked) program output → AnswersInput (Strip linked) input output
+    Answers (Strip linked) [] program output → AnswersInput (Strip linked) input output
 strip_ok linked input program output read answers = read_answers (Strip linked) input program read output answers
 
 pub memory_ends : (command : Command) (input : Change) (fault : Fault) → fault ≡ Memory → ReadingEnds command input fault

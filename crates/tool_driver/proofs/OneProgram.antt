@@ -28,32 +28,32 @@ not_both : (line : ℕ) (r : Refusal) (cause : Option RefusalKind) (f : Function
 not_both line r None f e ends with_ = with_.1 ends
 not_both line r (Some cause) f e ends with_ = cc
 
-parts_once : (line : ℕ) (declared : Result Declarations Refusal) (body : Result Body Refusal) (p : Parsed) (r : Refusal) →
-    ParsesParts line declared body (Ok p) → ParsesParts line declared body (Err (errors.Refused r)) → ⊥
-parts_once line (Ok d) (Ok body) p r ok err = not_both line r (closing_cause d body) (function_of d body) ok.0 ok.3 err
-parts_once line (Err s) (Ok body) p r ok err = ok
-parts_once line (Ok d) (Err s) p r ok err = ok
-parts_once line (Err s) (Err t) p r ok err = ok
+parts_once : (linked : Bool) (line : ℕ) (declared : Result Declarations Refusal) (body : Result Body Refusal) (p : Parsed) (r : Refusal) →
+    ParsesParts linked line declared body (Ok p) → ParsesParts linked line declared body (Err (errors.Refused r)) → ⊥
+parts_once linked line (Ok d) (Ok body) p r ok err = not_both line r (closing_cause linked d body) (function_of d body) ok.0 ok.3 err
+parts_once linked line (Err s) (Ok body) p r ok err = ok
+parts_once linked line (Ok d) (Err s) p r ok err = ok
+parts_once linked line (Err s) (Err t) p r ok err = ok
 
 -- a document isn't both parsed and refused
 parses_once : (meta : Maps) (doc : FunctionDocument) (p : Parsed) (r : Refusal) → Parses meta doc (Ok p) → Parses meta doc (Err (errors.Refused r)) → ⊥
-parses_once meta doc p r ok err = parts_once doc.closed (declarations_of doc) (body_of doc.linked meta doc.body) p r ok err
+parses_once meta doc p r ok err = parts_once doc.linked doc.closed (declarations_of doc) (body_of doc.linked meta doc.body) p r ok err
 
-same_parts : (line : ℕ) (declared : Result Declarations Refusal) (body : Result Body Refusal) (p q : Parsed) →
-    ParsesParts line declared body (Ok p) → ParsesParts line declared body (Ok q) → p ≡ q
-same_parts line (Ok d) (Ok body) p q a b =
+same_parts : (linked : Bool) (line : ℕ) (declared : Result Declarations Refusal) (body : Result Body Refusal) (p q : Parsed) →
+    ParsesParts linked line declared body (Ok p) → ParsesParts linked line declared body (Ok q) → p ≡ q
+same_parts linked line (Ok d) (Ok body) p q a b =
     let func : p.func ≡ q.func = a.1 ∙ sym b.1 in
     let subs : p.subs ≡ q.subs = a.2 ∙ sym b.2 in
     let exposes : p.exposure ≡ q.exposure = a.4 ∙ sym b.4 in
     let pool : p.pool ≡ q.pool = a.5 ∙ sym b.5 in
     λ i. record { func = func i; subs = subs i; pool = pool i; exposure = exposes i }
-same_parts line (Err s) (Ok body) p q a b = absurd a
-same_parts line (Ok d) (Err s) p q a b = absurd a
-same_parts line (Err s) (Err t) p q a b = absurd a
+same_parts linked line (Err s) (Ok body) p q a b = absurd a
+same_parts linked line (Ok d) (Err s) p q a b = absurd a
+same_parts linked line (Err s) (Err t) p q a b = absurd a
 
 -- a document is parsed to one function
 same_function : (meta : Maps) (doc : FunctionDocument) (p q : Parsed) → Parses meta doc (Ok p) → Parses meta doc (Ok q) → p ≡ q
-same_function meta doc p q a b = same_parts doc.closed (declarations_of doc) (body_of doc.linked meta doc.body) p q a b
+same_function meta doc p q a b = same_parts doc.linked doc.closed (declarations_of doc) (body_of doc.linked meta doc.body) p q a b
 
 -- ---- all documents
 

@@ -24,10 +24,11 @@ use Rattle.selftest_command.specs.run_command.Program.{IsOutputOf}
 use Rattle.readback_strip.proofs.read_proof.Texts.{programs_are_as_read}
 use Rattle.tool_driver.specs.Limits.{INPUT_LIMIT}
 use Rattle.tool_driver.specs.Compiled.{IsCompiledText, plan_steps}
-use Rattle.tool_driver.specs.Answer.{is_linked, HasFunctions}
-use Rattle.tool_driver.specs.Run.{Finishes, HasWritten, AnswersRead, AnswersInput, HasRead, HasReadProgram}
-use Rattle.tool_driver.specs.Refusals.{HasNoFunction, IsReader, IsRefusedAt, IsAnswered, RefusesProgram, IsTooLong}
-use Rattle.tool_driver.specs.Refusals.{Refuses, too_long, refused_at, no_function, refused_program, TellsRefusal, IsInputOf, IsAnswerable}
+use Rattle.read_metadata.specs.read_lexer.declared.line.Line.{Line}
+use Rattle.tool_driver.specs.Answer.{is_linked, block_lines, HasFunctions}
+use Rattle.tool_driver.specs.Run.{Finishes, HasWritten, AnswersRead, AnswersInput, HasRead, HasReadProgram, HasReadLines}
+use Rattle.tool_driver.specs.Refusals.{HasNoFunction, IsReader, IsRefusedAt, IsAnswered, AreAnswered, RefusesProgram, RefusesLines, IsTooLong}
+use Rattle.tool_driver.specs.Refusals.{Refuses, too_long, refused_at, no_function, refused_program, refused_lines, TellsRefusal, IsInputOf, IsAnswerable}
 use Rattle.tool_driver.specs.Refusals.{generates, tests, answers}
 use Rattle.tool_driver.specs.steps.Ends.{Explains, ReadingEnds, ReadingEnded}
 use Rattle.tool_driver.specs.Stream.{Change, MetFault, IsReadWhole, IsWrittenWhole, IsTold}
@@ -206,11 +207,13 @@ module _ (command : Command) (input : Change) where
     program : Program
     has : IsInputOf (is_linked command) input.before.bytes program
     answered : IsAnswered command program
+    lines_answered : AreAnswered command (block_lines (is_linked command) has.text) program
 
   asked_of : IsReader command → IsAnswerable command input.before.bytes → Asked
   asked_of reads (generates g same) = absurd (generates_unread command g same reads)
   asked_of reads (tests test same) = absurd (tests_unread command test same reads)
-  asked_of reads (answers program reader has answered) = record { program = program; has = has; answered = answered }
+  asked_of reads (answers program reader has answered of_lines) =
+      record { program = program; has = has; answered = answered; lines_answered = of_lines }
 
   -- the text that was read is that of the program that is to be answered
   text_asked : (asked : Asked) (text : List ℕ) → HasRead input text → text ≡ asked.has.text
@@ -241,11 +244,25 @@ module _ (command : Command) (input : Change) where
       let same : program ≡ asked.program = programs_one (is_linked command) asked.has.text program asked.program reads asked.has.has.reads in
       asked.answered fault (subst (λ (p : Program). RefusesProgram command p fault) same refused)
 
+  lines_kept : (asked : Asked) (lines : List Line) (program : Program) (fault : Fault) → HasReadLines (is_linked command) input lines program →
+      RefusesLines command lines program fault → ⊥
+  lines_kept asked lines program fault read refused =
+      let text : read.text ≡ asked.has.text = text_asked asked read.text read.read in
+      let reads : ReadsText (is_linked command) asked.has.text (Ok program) =
+      subst (λ (t : List ℕ). ReadsText (is_linked command) t (Ok program)) text read.has.reads in
+      let same : program ≡ asked.program = programs_one (is_linked command) asked.has.text program asked.program reads asked.has.has.reads in
+      let of : lines ≡ block_lines (is_linked command) asked.has.text =
+      read.of ∙ ap (λ (t : List ℕ). block_lines (is_linked command) t) text in
+      asked.lines_answered fault
+      (subst (λ (p : Program). RefusesLines command (block_lines (is_linked command) asked.has.text) p fault) same
+      (subst (λ (ls : List Line). RefusesLines command ls program fault) of refused))
+
   not_refused : {fault : Fault} → IsAnswerable command input.before.bytes → Refuses command input fault → ⊥
   not_refused form (too_long reads long) = not_too_long (asked_of reads form) long
   not_refused form (refused_at text r reads read refused) = not_refused_at (asked_of reads form) text r read refused
   not_refused form (no_function text reads read none) = has_function (asked_of reads form) text read none
   not_refused {fault = f} form (refused_program program reads read refused) = program_answered (asked_of reads form) program f read refused
+  not_refused {fault = f} form (refused_lines lines program reads read refused) = lines_kept (asked_of reads form) lines program f read refused
 
 -- the command that ended is the one that was asked for
 ended_as_asked : (command : Command) (words : List (List ℕ)) (input : Change) (fault : Fault) → IsCommand words command → ReadingEnded words input fault →

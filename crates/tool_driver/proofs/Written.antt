@@ -9,25 +9,28 @@ use Rattle.cli.specs.declared.command.TestPlan.{TestPlan}
 use Rattle.cli.specs.declared.command.Command.TheVariants.{Report, Object, Run, SelfTest}
 use Rattle.cli.specs.Command.{IsCommand}
 use Rattle.cli.proofs.CommandWords.{one_command}
+use Rattle.read_metadata.specs.read_lexer.declared.line.Line.{Line}
 use Rattle.read_program.specs.declared.program.Program.{Program}
 use Rattle.kept_program.proofs.Holding.{suspended_programs_hold}
 use Rattle.linkable_placement.proofs.Placed.{object_placed}
+use Rattle.linkable_theorem.proofs.Guaranteed.{tables_guarantee}
 use Rattle.selftest_command.specs.run_command.Program.{names_of, sources_of}
+use Rattle.tool_driver.specs.Answer.{block_lines}
 use Rattle.tool_driver.specs.Run.{Finishes, AnswersRead, AnswersInput, WroteReport, WroteObject, WroteRun, WroteTest, KeepsPromises, IsKeptAsked}
 use Rattle.tool_driver.specs.Compiled.{plan_steps, IsObjectAsked}
 use Rattle.tool_driver.specs.Stream.{Change}
 use Rattle.tool_driver.proofs.Kept.{keeps_promises}
 
 -- an object in the form that is asked for is one of an output that keeps the promises
-kept_asked : (form : Option LinkableForm) (plan : PassPipeline) (p : Program) (bytes : List ℕ) → IsObjectAsked form plan p bytes
-    → IsKeptAsked form plan p bytes
-kept_asked None plan p bytes file = record {
+kept_asked : (form : Option LinkableForm) (plan : PassPipeline) (lines : List Line) (p : Program) (bytes : List ℕ)
+    → IsObjectAsked form plan lines p bytes → IsKeptAsked form plan lines p bytes
+kept_asked None plan lines p bytes file = record {
   made = file.output;
   is = file.is;
   promises = keeps_promises (plan_steps plan) p file.output file.is.made;
   object = file.object;
 }
-kept_asked (Some form) plan p bytes file =
+kept_asked (Some form) plan lines p bytes file =
     let o = file.compilation.output in
     let promises : KeepsPromises (plan_steps plan) p o = keeps_promises (plan_steps plan) p o file.by_plan.is.made in
     let is = file.object in
@@ -37,6 +40,8 @@ kept_asked (Some form) plan p bytes file =
       promises = promises;
       is = is;
       placed = object_placed (names_of p.meta) (sources_of p.functions) o is.loclists is.tables promises.laid_out is.are.are.writable;
+      tables =
+          tables_guarantee lines plan.reserve plan.passes p file.compilation file.by_plan.compiled form.frame is.tables is.are;
       suspended =
           suspended_programs_hold plan.reserve plan.passes p file.compilation file.by_plan.compiled is.lists.lists is.lists.kept;
     }
@@ -71,7 +76,7 @@ module _ (words : List (List ℕ)) (input output : Change) (finished : Finishes 
         program = answers.answers.program;
         has = answers.answers.has;
         bytes = finished.text;
-        is = kept_asked asked.form asked.plan answers.answers.program finished.text answers.answers.answers;
+        is = kept_asked asked.form asked.plan (block_lines asked.plan.linked answers.text) answers.answers.program finished.text answers.answers.answers;
         written = finished.written;
       }
 

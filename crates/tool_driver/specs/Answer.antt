@@ -1,5 +1,7 @@
 -- What a command writes for a program, and for the text of one.
 use Rattle.std.specs.Prelude.{◌≡◌, Bool, false, ◌≢◌, ℕ, List, [], Ok}
+pub use Rattle.read_metadata.specs.read_lexer.declared.line.Line.{Line}
+use Rattle.read_documents.specs.Documents.{documents_of}
 use Rattle.read_program.specs.declared.program.Program.{Program}
 use Rattle.read_program.specs.Program.{ReadsText}
 use Rattle.readback_strip.specs.strip_command.StripText.{stripped_text}
@@ -27,22 +29,26 @@ pub record HasFunctions (linked : Bool) (text : List ℕ) (program : Program) : 
   pub reads : ReadsText linked text (Ok program)
   pub some : program.functions ≢ []
 
--- what a command writes for a program; a command that reads no input writes nothing for any
-abbrev pub Answers : Command → Program → (output : List ℕ) → Type 0
-Answers (Compile asked) program output = IsCompiledText asked.frame asked.inline (plan_steps asked.plan) program output
-Answers (Listing plan) program output = IsListingText (plan_steps plan) program output
-Answers (Report plan) program output = IsReportText plan.reserve plan.passes program output
-Answers (Object asked) program output = IsObjectAsked asked.form asked.plan program output
-Answers (Run run) program output = IsRunOfProgram (plan_steps run.plan) program run.name run.steps run.symbols run.arguments run.answers output
-Answers (Strip linked) program output = output ≡ stripped_text program.functions
-Answers (Gen g) program output = ⊥
-Answers (SelfTest test) program output = ⊥
+-- the lines of a text's IR block
+abbrev pub block_lines : (linked : Bool) → (text : List ℕ) → List Line
+block_lines linked text = (documents_of linked text).meta
+
+-- what a command writes for a program with an IR block of these lines; a command that reads no input writes nothing for any
+abbrev pub Answers : Command → List Line → Program → (output : List ℕ) → Type 0
+Answers (Compile asked) lines program output = IsCompiledText asked.frame asked.inline (plan_steps asked.plan) program output
+Answers (Listing plan) lines program output = IsListingText (plan_steps plan) program output
+Answers (Report plan) lines program output = IsReportText plan.reserve plan.passes program output
+Answers (Object asked) lines program output = IsObjectAsked asked.form asked.plan lines program output
+Answers (Run run) lines program output = IsRunOfProgram (plan_steps run.plan) program run.name run.steps run.symbols run.arguments run.answers output
+Answers (Strip linked) lines program output = output ≡ stripped_text program.functions
+Answers (Gen g) lines program output = ⊥
+Answers (SelfTest test) lines program output = ⊥
 
 -- the text is read as a program with a function, and this is what the command writes for it
 pub record AnswersText (command : Command) (text output : List ℕ) : Type 0 where
   pub program : Program
   pub has : HasFunctions (is_linked command) text program
-  pub answers : Answers command program output
+  pub answers : Answers command (block_lines (is_linked command) text) program output
 
 -- the text that a self-test writes
 abbrev pub IsTestText : TestPlan → (text : List ℕ) → Type 0

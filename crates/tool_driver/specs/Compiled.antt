@@ -7,6 +7,7 @@ use Rattle.cli.specs.declared.command.PassPipeline.{PassPipeline}
 use Rattle.elf_object.specs.Standard.{EF_RISCV_FLOAT_ABI_DOUBLE}
 use Rattle.linkable_program.specs.linkable_command.Linkable.{HaveLinkableNames}
 use Rattle.linkable_program.specs.Program.{IsLinkableOf, IsLinkableLarge}
+use Rattle.read_metadata.specs.read_lexer.declared.line.Line.{Line}
 use Rattle.read_program.specs.declared.program.Program.{Program}
 use Rattle.object_command.specs.Object.{HaveSymbolNames, IsObjectOf, HasLargeObject}
 use Rattle.selftest_command.specs.run_command.Runs.{Compilation}
@@ -66,11 +67,11 @@ pub record IsCompiledBy (plan : PassPipeline) (program : Program) (c : Compilati
   pub is : IsPlainOutputOf (plan_steps plan) program c.output
   pub compiled : IsCompilationOf plan.reserve plan.passes program c
 
--- the bytes are the object of such a compilation that a linker places
-pub record IsLinkableFileOf (form : LinkableForm) (plan : PassPipeline) (program : Program) (bytes : List ℕ) : Type 0 where
+-- the bytes are the object of such a compilation that a linker places, where the program's IR block has these lines
+pub record IsLinkableFileOf (form : LinkableForm) (plan : PassPipeline) (lines : List Line) (program : Program) (bytes : List ℕ) : Type 0 where
   pub compilation : Compilation
   pub by_plan : IsCompiledBy plan program compilation
-  pub object : IsLinkableOf program compilation form.frame (flags_of form) bytes
+  pub object : IsLinkableOf lines program compilation form.frame (flags_of form) bytes
 
 -- the name of a function, or one to which code refers, can't be a symbol's
 pub record HasUnlinkableName (plan : PassPipeline) (program : Program) : Type 0 where
@@ -79,21 +80,17 @@ pub record HasUnlinkableName (plan : PassPipeline) (program : Program) : Type 0 
   pub invalid : HaveLinkableNames compilation.output.functions → ⊥
 
 -- the object, or a section of it, would be too large
-pub record IsLargeLinkableOf (form : LinkableForm) (plan : PassPipeline) (program : Program) : Type 0 where
+pub record IsLargeLinkableOf (form : LinkableForm) (plan : PassPipeline) (lines : List Line) (program : Program) : Type 0 where
   pub compilation : Compilation
   pub by_plan : IsCompiledBy plan program compilation
-  pub large : IsLinkableLarge program compilation form.frame (flags_of form)
+  pub large : IsLinkableLarge lines program compilation form.frame (flags_of form)
 
 -- ---- the object that is asked for
 
-abbrev pub IsObjectAsked : Option LinkableForm → PassPipeline → Program → (bytes : List ℕ) → Type 0
-IsObjectAsked None plan program bytes = IsObjectFile (plan_steps plan) program bytes
-IsObjectAsked (Some form) plan program bytes = IsLinkableFileOf form plan program bytes
+abbrev pub IsObjectAsked : Option LinkableForm → PassPipeline → List Line → Program → (bytes : List ℕ) → Type 0
+IsObjectAsked None plan lines program bytes = IsObjectFile (plan_steps plan) program bytes
+IsObjectAsked (Some form) plan lines program bytes = IsLinkableFileOf form plan lines program bytes
 
 abbrev pub HasInvalidNameAsked : Option LinkableForm → PassPipeline → Program → Type 0
 HasInvalidNameAsked None plan program = HasInvalidName (plan_steps plan) program
 HasInvalidNameAsked (Some form) plan program = HasUnlinkableName plan program
-
-abbrev pub IsLargeObjectAsked : Option LinkableForm → PassPipeline → Program → Type 0
-IsLargeObjectAsked None plan program = IsLargeObjectOf (plan_steps plan) program
-IsLargeObjectAsked (Some form) plan program = IsLargeLinkableOf form plan program

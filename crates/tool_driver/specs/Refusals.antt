@@ -1,6 +1,7 @@
 -- Why a command is refused, and that it is answered where nothing refuses it.
 use Rattle.std.specs.Prelude.{◌≡◌, Bool, true, ℕ, ◌+◌, ◌≤◌, List, [], length, Option, Some, None, Ok, Err}
 use Rattle.read_refusal.specs.declared.first.Refusal.{Refusal}
+use Rattle.read_metadata.specs.read_lexer.declared.line.Line.{Line}
 use Rattle.read_program.specs.declared.program.Program.{Program}
 use Rattle.read_program.specs.declared.error.ParseError.TheVariants as errors
 use Rattle.read_program.specs.Program.{ReadsText}
@@ -8,6 +9,7 @@ use Rattle.selftest_command.specs.run_command.Program.{HaveRegisters, HasVirtual
 use Rattle.cli.specs.declared.command.Command.{Command}
 use Rattle.cli.specs.declared.fault.Fault.{Fault}
 use Rattle.cli.specs.declared.command.CompilePlan.{CompilePlan}
+use Rattle.cli.specs.declared.command.LinkableForm.{LinkableForm}
 use Rattle.cli.specs.declared.command.ObjectPlan.{ObjectPlan}
 use Rattle.cli.specs.declared.command.PassPipeline.{PassPipeline}
 use Rattle.cli.specs.declared.command.RunPlan.{RunPlan}
@@ -20,10 +22,10 @@ use Rattle.cli.specs.declared.fault.Fault.TheVariants.{SectionTooLarge}
 use Rattle.cli_numbers.specs.declared.generation.Generation.{Generation}
 use Rattle.selftest_command.specs.run_command.Source.{IsUnknown}
 use Rattle.tool_driver.specs.Limits.{INPUT_LIMIT}
-use Rattle.tool_driver.specs.Compiled.{plan_steps, HasInvalidNameAsked, IsLargeObjectAsked}
+use Rattle.tool_driver.specs.Compiled.{plan_steps, HasInvalidNameAsked, IsLargeObjectOf, IsLargeLinkableOf}
 use Rattle.tool_driver.specs.Stream.{Change, IsReadFor, IsTold}
-use Rattle.tool_driver.specs.Answer.{is_linked, HasFunctions}
-use Rattle.tool_driver.specs.Run.{HasRead, HasReadProgram}
+use Rattle.tool_driver.specs.Answer.{is_linked, block_lines, HasFunctions}
+use Rattle.tool_driver.specs.Run.{HasRead, HasReadProgram, HasReadLines}
 
 -- the commands that read the input
 abbrev pub IsReader : Command → Type 0
@@ -80,12 +82,17 @@ pub data RefusesProgram (command : Command) (program : Program) : Fault → Type
       RefusesProgram command program SectionTooLarge
   inlined_section_too_large : (asked : CompilePlan) → command ≡ Compile asked → asked.inline ≡ true →
       HasLargeInlinedSection (plan_steps asked.plan) program → RefusesProgram command program SectionTooLarge
-  object_too_large : (asked : ObjectPlan) → command ≡ Object asked → IsLargeObjectAsked asked.form asked.plan program →
+  object_too_large : (asked : ObjectPlan) → command ≡ Object asked → asked.form ≡ None → IsLargeObjectOf (plan_steps asked.plan) program →
       RefusesProgram command program SectionTooLarge
   no_symbol_name : (asked : ObjectPlan) → command ≡ Object asked → HasInvalidNameAsked asked.form asked.plan program →
       RefusesProgram command program SymbolName
 
--- Why a command is refused: its input is too long, is refused at a line or has no function; or the program that was read is refused.
+-- Why a command writes nothing for a program with an IR block of these lines: the object that a linker places, or a section of it, is above the limit.
+pub data RefusesLines (command : Command) (lines : List Line) (program : Program) : Fault → Type 0 where
+  linkable_too_large : (asked : ObjectPlan) (form : LinkableForm) → command ≡ Object asked → asked.form ≡ Some form →
+      IsLargeLinkableOf form asked.plan lines program → RefusesLines command lines program SectionTooLarge
+
+-- Why a command is refused: its input is too long, is refused at a line or has no function; or the program that was read is refused, or its lines are.
 pub data Refuses (command : Command) (input : Change) : Fault → Type 0 where
   too_long : IsReader command → IsTooLong input → Refuses command input TooLong
   refused_at : (text : List ℕ) (r : Refusal) → IsReader command → HasRead input text → IsRefusedAt (is_linked command) text r →
@@ -94,6 +101,8 @@ pub data Refuses (command : Command) (input : Change) : Fault → Type 0 where
   refused_program : {fault : Fault} (program : Program) → IsReader command → HasReadProgram (is_linked command) input program →
       RefusesProgram command program fault →
       Refuses command input fault
+  refused_lines : {fault : Fault} (lines : List Line) (program : Program) → IsReader command → HasReadLines (is_linked command) input lines program →
+      RefusesLines command lines program fault → Refuses command input fault
 
 -- the words are a command, which is refused, and the line for that fault is written to `faults`
 pub record TellsRefusal (words : List (List ℕ)) (input faults : Change) : Type 0 where
@@ -107,6 +116,10 @@ pub record TellsRefusal (words : List (List ℕ)) (input faults : Change) : Type
 abbrev pub IsAnswered : Command → Program → Type 0
 IsAnswered command program = (fault : Fault) → RefusesProgram command program fault → ⊥
 
+-- the lines of an IR block for which it does, with the program
+abbrev pub AreAnswered : Command → List Line → Program → Type 0
+AreAnswered command lines program = (fault : Fault) → RefusesLines command lines program fault → ⊥
+
 -- the bytes of the input are known, within the limit, and read as this program, which has a function
 pub record IsInputOf (linked : Bool) (left : Option (List ℕ)) (program : Program) : Type 0 where
   pub text : List ℕ
@@ -118,4 +131,5 @@ pub record IsInputOf (linked : Bool) (left : Option (List ℕ)) (program : Progr
 pub data IsAnswerable (command : Command) (left : Option (List ℕ)) : Type 0 where
   generates : (g : Generation) → command ≡ Gen g → IsAnswerable command left
   tests : (test : TestPlan) → command ≡ SelfTest test → IsAnswerable command left
-  answers : (program : Program) → IsReader command → IsInputOf (is_linked command) left program → IsAnswered command program → IsAnswerable command left
+  answers : (program : Program) → IsReader command → (of : IsInputOf (is_linked command) left program) → IsAnswered command program →
+      AreAnswered command (block_lines (is_linked command) of.text) program → IsAnswerable command left

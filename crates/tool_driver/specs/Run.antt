@@ -3,6 +3,7 @@ use Rattle.std.specs.Prelude.{◌≡◌, ℕ, ◌≤◌, Bool, false, List, leng
 use Rattle.listing_text.specs.declared.output.Output.{Output}
 use Rattle.listing_text.specs.Shown.{OfShown}
 use Rattle.compile_output_proof.specs.listing_proof.Laws.{inlined_in}
+use Rattle.read_metadata.specs.read_lexer.declared.line.Line.{Line}
 use Rattle.read_program.specs.declared.program.Program.{Program}
 use Rattle.cli.specs.declared.command.Command.{Command}
 use Rattle.cli.specs.declared.command.Command.TheVariants.{Compile, Listing, Report, Object, Run, Strip, Gen, SelfTest}
@@ -22,8 +23,9 @@ use Rattle.tool_driver.specs.Limits.{INPUT_LIMIT}
 use Rattle.kept_program.specs.Suspended.{AllHold}
 use Rattle.linkable_placement.specs.Placement.{Placement, Fits, IsPlaced}
 use Rattle.linkable_program.specs.Program.{IsLinkableOf}
+use Rattle.linkable_theorem.specs.Tables.{Guarantee}
 use Rattle.tool_driver.specs.Compiled.{plan_steps, flags_of, IsPlainOutputOf, IsCompiledBy}
-use Rattle.tool_driver.specs.Answer.{HasFunctions, AnswersText, IsTestText}
+use Rattle.tool_driver.specs.Answer.{block_lines, HasFunctions, AnswersText, IsTestText}
 use Rattle.frame_theorem.specs.compile_theorem.OutputProperties.{AreLaidOut, Promises, IsExact, ListsPassed}
 use Rattle.frame_theorem.specs.compile_theorem.Source.{PassedFunction}
 use Rattle.frame_theorem.specs.compile_theorem.Words.{HaveWords}
@@ -50,6 +52,13 @@ pub record HasReadProgram (linked : Bool) (input : Change) (program : Program) :
   pub text : List ℕ
   pub read : HasRead input text
   pub has : HasFunctions linked text program
+
+-- the same, and its IR block has these lines
+pub record HasReadLines (linked : Bool) (input : Change) (lines : List Line) (program : Program) : Type 0 where
+  pub text : List ℕ
+  pub read : HasRead input text
+  pub has : HasFunctions linked text program
+  pub of : lines ≡ block_lines linked text
 
 -- the input was read, and this is what the command writes for it
 pub record AnswersRead (command : Command) (input : Change) (output : List ℕ) : Type 0 where
@@ -189,23 +198,31 @@ pub record IsKeptObject (steps : ExposedSteps) (p : Program) (bytes : List ℕ) 
   pub object : IsObjectOf made bytes
 
 -- The bytes are the object that a linker places of the program, compiled by a plan to an output that keeps the promises. Wherever a linker places it, its code
--- runs in the environment of the placement, and its debug sections are those of the same entries, rows and functions, moved there. Its location lists are true
--- in suspended frames too, whatever the callee did.
-pub record IsKeptLinkable (form : LinkableForm) (plan : PassPipeline) (p : Program) (bytes : List ℕ) : Type 0 where
+-- runs in the environment of the placement, and its debug sections are those of the same entries, rows and functions, moved there. The rows say of each address
+-- where it comes from, and where prologues end, and the call frame information unwinds. Its location lists are true in suspended frames too, whatever the callee
+-- did.
+pub record IsKeptLinkable (form : LinkableForm) (plan : PassPipeline) (lines : List Line) (p : Program) (bytes : List ℕ) : Type 0 where
   pub compilation : Compilation
   pub by_plan : IsCompiledBy plan p compilation
   pub promises : KeepsPromises (plan_steps plan) p compilation.output
-  pub is : IsLinkableOf p compilation form.frame (flags_of form) bytes
+  pub is : IsLinkableOf lines p compilation form.frame (flags_of form) bytes
   pub placed : (place : Placement) → Fits place compilation.output is.loclists is.tables → IsPlaced place compilation.output is.loclists is.tables
+  pub tables : Guarantee lines p compilation form.frame is.tables is.are
   pub suspended : AllHold compilation.output (sources_of p.functions) compilation.functions compilation.output.functions is.lists.lists
 
-abbrev pub IsKeptAsked : Option LinkableForm → PassPipeline → Program → (bytes : List ℕ) → Type 0
-IsKeptAsked None plan p bytes = IsKeptObject (plan_steps plan) p bytes
-IsKeptAsked (Some form) plan p bytes = IsKeptLinkable form plan p bytes
+abbrev pub IsKeptAsked : Option LinkableForm → PassPipeline → List Line → Program → (bytes : List ℕ) → Type 0
+IsKeptAsked None plan lines p bytes = IsKeptObject (plan_steps plan) p bytes
+IsKeptAsked (Some form) plan lines p bytes = IsKeptLinkable form plan lines p bytes
 
 -- the object of the functions after the plan's passes was written, in the form that is asked for
-abbrev pub WroteObject : ObjectPlan → (input output : Change) → Type 0
-WroteObject asked input output = WroteText asked.plan.linked (IsKeptAsked asked.form asked.plan) input output
+pub record WroteObject (asked : ObjectPlan) (input output : Change) : Type 0 where
+  pub text : List ℕ
+  pub read : HasRead input text
+  pub program : Program
+  pub has : HasFunctions asked.plan.linked text program
+  pub bytes : List ℕ
+  pub is : IsKeptAsked asked.form asked.plan (block_lines asked.plan.linked text) program bytes
+  pub written : IsWrittenWhole output bytes
 
 -- the report of the functions after the plan's passes was written
 abbrev pub WroteReport : PassPipeline → (input output : Change) → Type 0

@@ -6,9 +6,9 @@ ghost use Rattle.selftest_command.specs.run_command.Source.{IsRunOfProgram};
 ghost use Rattle.cli.specs.Command.{IsWithin};
 ghost use Rattle.cli.specs.declared.command.Command.TheVariants as command;
 ghost use Rattle.tool_driver.specs.Answer.{IsTestText};
-ghost use Rattle.tool_driver.specs.steps.Ends.{RefusesToCompile, RefusesToWrite};
+ghost use Rattle.tool_driver.specs.steps.Ends.{RefusesToCompile, RefusesToWrite, RefusesToWriteOf};
 ghost use Rattle.tool_driver.specs.Compiled.{flags_of, plan_steps, IsCompiledBy, IsPlainOutputOf, IsCompiledText};
-ghost use Rattle.tool_driver.specs.Compiled.{IsListingText, IsObjectAsked};
+ghost use Rattle.tool_driver.specs.Compiled.{IsListingText, IsObjectFile, IsLinkableFileOf};
 ghost use Rattle.selftest_command.specs.run_command.Program.{IsOutputOf, IsCompilationOf};
 ghost use Rattle.readback_strip.specs.read_proof.Read.{IsReadProgram};
 
@@ -19,6 +19,7 @@ use linkable_program::program::linkable_of;
 use listing_text::print::{print_listing, print_output};
 use mir_printer::text::Text;
 use object_command::object::{ObjectError, object};
+use read_metadata::read_lexer_crate::line::Lines;
 use read_program::program::Program;
 use report_command::report::report;
 use selftest_command::run_command_crate::compile::{Compilation, compile, compile_with};
@@ -59,17 +60,15 @@ pub fn report_text(alloc: Global, program: &Program, plan: &PassPipeline) -> Res
     Ok(report(alloc, &compilation)?)
 }
 
-/// The bytes of `object`: the object of a program after passes, in the form that is asked for.
+/// The bytes of `object` without `--linkable`: the object of a program after passes.
 pub fn object_text(alloc: Global, program: &Program, asked: &ObjectPlan) -> Result<Text, Fault>
-    requires { IsReadProgram program.now }
-    ensures ok { IfOk result (IsObjectAsked asked.now.form asked.now.plan program.now) }
+    requires read { IsReadProgram program.now }
+    requires form { asked.now.form ≡ None }
+    ensures ok { IfOk result (IsObjectFile (plan_steps asked.now.plan) program.now) }
     ensures err { IfErr result (RefusesToWrite (command.Object asked.now) program.now) }
 {
     match compilation(alloc, program, &asked.plan) {
-        Ok(compilation) => match asked.form {
-            None => object_in(alloc, program, asked, compilation),
-            Some(form) => linkable_in(alloc, program, asked, form, compilation),
-        },
+        Ok(compilation) => object_in(alloc, program, asked, compilation),
         Err(fault) => Err(fault),
     }
 }
@@ -83,7 +82,7 @@ fn object_in(
 ) -> Result<Text, Fault>
     requires form { _asked.now.form ≡ None }
     requires output { IsPlainOutputOf (plan_steps _asked.now.plan) _program.now compilation.output }
-    ensures ok { IfOk result (IsObjectAsked _asked.now.form _asked.now.plan _program.now) }
+    ensures ok { IfOk result (IsObjectFile (plan_steps _asked.now.plan) _program.now) }
     ensures err { IfErr result (RefusesToWrite (command.Object _asked.now) _program.now) }
 {
     let Compilation {
@@ -98,9 +97,30 @@ fn object_in(
     }
 }
 
+/// The bytes of `object` with `--linkable`: the object that a linker places of a program after passes, whose IR block
+/// has these lines.
+pub fn linkable_text(
+    alloc: Global,
+    lines: &Lines,
+    program: &Program,
+    asked: &ObjectPlan,
+    form: LinkableForm,
+) -> Result<Text, Fault>
+    requires read { IsReadProgram program.now }
+    requires form { asked.now.form ≡ Some form }
+    ensures ok { IfOk result (IsLinkableFileOf form asked.now.plan lines.now program.now) }
+    ensures err { IfErr result (RefusesToWriteOf (command.Object asked.now) lines.now program.now) }
+{
+    match compilation(alloc, program, &asked.plan) {
+        Ok(compilation) => linkable_in(alloc, lines, program, asked, form, compilation),
+        Err(fault) => Err(fault),
+    }
+}
+
 /// The object of a compiled program that a linker places.
 fn linkable_in(
     alloc: Global,
+    lines: &Lines,
     program: &Program,
     asked: &ObjectPlan,
     form: LinkableForm,
@@ -109,11 +129,12 @@ fn linkable_in(
     requires read { IsReadProgram program.now }
     requires form { asked.now.form ≡ Some form }
     requires compilation { IsCompiledBy asked.now.plan program.now compilation }
-    ensures ok { IfOk result (IsObjectAsked asked.now.form asked.now.plan program.now) }
-    ensures err { IfErr result (RefusesToWrite (command.Object asked.now) program.now) }
+    ensures ok { IfOk result (IsLinkableFileOf form asked.now.plan lines.now program.now) }
+    ensures err { IfErr result (RefusesToWriteOf (command.Object asked.now) lines.now program.now) }
 {
     match linkable_of(
         alloc,
+        lines,
         program,
         compilation,
         form.frame,

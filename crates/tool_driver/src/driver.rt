@@ -1,6 +1,6 @@
 //! The run of a command.
 
-ghost use Rattle.std.specs.Prelude.{◌≡◌, ◌≢◌, ◌≤◌, ◌⊎◌, [], Bool, IfOk, OnOk, IfErr, IsErrOf, map, string_bytes};
+ghost use Rattle.std.specs.Prelude.{◌≡◌, ◌≢◌, ◌≤◌, ◌⊎◌, [], Bool, Some, IfOk, OnOk, IfErr, IsErrOf, map, string_bytes};
 ghost use Rattle.cli.specs.Command.{AreWithin, IsCommand};
 ghost use Rattle.cli.specs.declared.command.CompilePlan.{CompilePlan};
 ghost use Rattle.cli.specs.declared.command.ObjectPlan.{ObjectPlan};
@@ -20,12 +20,15 @@ ghost use Rattle.tool_driver.specs.Refusals.{TellsRefusal, IsAnswerable};
 ghost use Rattle.tool_driver.specs.steps.Ends.{HasReadNone, Explains, ReadingEnds};
 ghost use Rattle.tool_driver.specs.Stream.{change, MetFault, IsWrittenWhole, IsTold};
 
-use crate::compiled::{compiled_text, listing_text, object_text, report_text, run_text, test_text};
+use crate::compiled::{
+    compiled_text, linkable_text, listing_text, object_text, report_text, run_text, test_text,
+};
 use crate::telling::tell;
+use crate::whole_text::read_whole;
 use base_io::sink::Sink;
 use base_io::source::Source;
 use base_io::writing::write_all;
-use cli::command::{Command, parse};
+use cli::command::{Command, LinkableForm, ObjectPlan, parse};
 use cli::fault::Fault;
 use cli::status::Status;
 use gen_text::print::print_generated;
@@ -261,10 +264,7 @@ fn answered<S: Source>(alloc: Global, command: Command, input: &mut S) -> Result
             let program = read(alloc, plan.linked, input)?;
             report_text(alloc, &program, &plan)
         }
-        Command::Object(asked) => {
-            let program = read(alloc, asked.plan.linked, input)?;
-            object_text(alloc, &program, &asked)
-        }
+        Command::Object(asked) => object_answered(alloc, asked, input),
         Command::Run(plan) => {
             let program = read(alloc, plan.plan.linked, input)?;
             run_text(alloc, &program, plan)
@@ -276,6 +276,41 @@ fn answered<S: Source>(alloc: Global, command: Command, input: &mut S) -> Result
         Command::Gen(asked) => Ok(print_generated(alloc, asked.number, asked.blocks)?),
         Command::SelfTest(asked) => test_text(alloc, &asked),
     }
+}
+
+/// The output of `object`.
+fn object_answered<S: Source>(
+    alloc: Global,
+    asked: ObjectPlan,
+    input: &mut S,
+) -> Result<Text, Fault>
+    ensures ok { IfOk result (AnswersInput (Command.Object asked) (change S.left S.faults input.old input.new)) }
+    ensures err { IfErr result (ReadingEnds (Command.Object asked) (change S.left S.faults input.old input.new)) }
+    ensures counts { S.faults input.old ≤ S.faults input.new }
+{
+    match asked.form {
+        Some(form) => linkable_answered(alloc, &asked, form, input),
+        None => {
+            let program = read(alloc, asked.plan.linked, input)?;
+            object_text(alloc, &program, &asked)
+        }
+    }
+}
+
+/// The output of `object` with `--linkable`, for which the text is kept: its metadata is read again.
+fn linkable_answered<S: Source>(
+    alloc: Global,
+    asked: &ObjectPlan,
+    form: LinkableForm,
+    input: &mut S,
+) -> Result<Text, Fault>
+    requires { asked.now.form ≡ Some form }
+    ensures ok { IfOk result (AnswersInput (Command.Object asked.now) (change S.left S.faults input.old input.new)) }
+    ensures err { IfErr result (ReadingEnds (Command.Object asked.now) (change S.left S.faults input.old input.new)) }
+    ensures counts { S.faults input.old ≤ S.faults input.new }
+{
+    let whole = read_whole(alloc, asked.plan.linked, input)?;
+    linkable_text(alloc, &whole.lines, &whole.program, asked, form)
 }
 
 /// The program in an input, which is read to its end; `linked` is whether the linked language is read.
@@ -294,7 +329,7 @@ fn read<S: Source>(alloc: Global, linked: bool, input: &mut S) -> Result<Program
 }
 
 /// A program with a function.
-fn some_function(program: Program) -> Result<Program, Fault>
+pub(crate) fn some_function(program: Program) -> Result<Program, Fault>
     ensures ok { IfOk result (λ same. (same ≡ program) × (program.functions ≢ [])) }
     ensures err { IfErr result (λ fault. (fault ≡ Fault.NoFunction) × (program.functions ≡ [])) }
 {

@@ -17,3 +17,4 @@
 mod compiled;
 pub mod driver;
 pub mod telling;
+mod whole_text;

@@ -1,5 +1,6 @@
 -- The faults of the parts of a run, as its code meets them: want of memory is one of each part that allocates.
-use Rattle.std.specs.Prelude.{ℕ, Bool, List}
+use Rattle.std.specs.Prelude.{ℕ, ◌⊎◌, Bool, List}
+use Rattle.read_metadata.specs.read_lexer.declared.line.Line.{Line}
 use Rattle.read_program.specs.declared.program.Program.{Program}
 use Rattle.selftest_command.specs.run_command.Program.{HaveRegisters, HasVirtualRegister, HasLargeFrame, HasLargeSection}
 use Rattle.cli.specs.Command.{IsCommand}
@@ -10,7 +11,7 @@ use Rattle.cli.specs.declared.fault.Fault.TheVariants.{Usage, Read, TooLong, Ref
 use Rattle.cli.specs.declared.fault.Fault.TheVariants.{NoRegister, FrameTooLarge, SymbolName, SectionTooLarge, Write, Memory}
 use Rattle.tool_driver.specs.Compiled.{plan_steps}
 use Rattle.tool_driver.specs.Run.{AreCommand, HasRead, IsCutOff}
-use Rattle.tool_driver.specs.Refusals.{IsReader, IsRefusedAt, HasNoFunction, RefusesProgram, IsTooLong, Refuses}
+use Rattle.tool_driver.specs.Refusals.{IsReader, IsRefusedAt, HasNoFunction, RefusesProgram, RefusesLines, IsTooLong, Refuses}
 use Rattle.tool_driver.specs.Stream.{Change, MetFault}
 
 -- ---- reading
@@ -82,6 +83,10 @@ RefusesToWrite command program Usage = ⊥
 RefusesToWrite command program Read = ⊥
 RefusesToWrite command program TooLong = ⊥
 RefusesToWrite command program Write = ⊥
+
+-- the faults of a command on a program with an IR block of these lines
+abbrev pub RefusesToWriteOf : Command → List Line → Program → Fault → Type 0
+RefusesToWriteOf command lines program fault = RefusesToWrite command program fault ⊎ RefusesLines command lines program fault
 
 -- ---- a whole run
 

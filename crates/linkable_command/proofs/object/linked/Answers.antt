@@ -32,18 +32,18 @@ file-requires-clause-plain c =
 pub file-requires-clause-locals : goal.file-requires-clause-locals
 file-requires-clause-locals c =
     let sections = c.in_ok-sections.sections in
-    let symbols : c.as_slice-2.result.now ≡ section_symbols 1 sections ++ named_symbols c.args.output.functions =
+    let symbols : c.as_slice-2.result.now ≡ section_symbols 1 sections ++ named_symbols c.args.t.now.linkages c.args.output.functions =
     c.as_slice-2.ensures ∙ c.in_ok-append.ensures
     ∙ (λ i. (c.in_ok-symbols.ensures ∙ ap (section_symbols 1) c.as_slice.ensures) i ++ c.requires.symbols i) in
-    subst LocalsFirst (sym symbols) (locals sections c.args.output.functions)
+    subst LocalsFirst (sym symbols) (locals sections c.args.t.now.linkages c.args.output.functions)
 
 pub file-requires-clause-names : goal.file-requires-clause-names
 file-requires-clause-names c =
     let sections = c.in_ok-sections.sections in
-    let symbols : c.as_slice-2.result.now ≡ section_symbols 1 sections ++ named_symbols c.args.output.functions =
+    let symbols : c.as_slice-2.result.now ≡ section_symbols 1 sections ++ named_symbols c.args.t.now.linkages c.args.output.functions =
     c.as_slice-2.ensures ∙ c.in_ok-append.ensures
     ∙ (λ i. (c.in_ok-symbols.ensures ∙ ap (section_symbols 1) c.as_slice.ensures) i ++ c.requires.symbols i) in
-    subst (All (λ (s : Symbol). IsName s.name)) (sym symbols) (symbols_named sections c.args.output.functions c.requires.names)
+    subst (All (λ (s : Symbol). IsName s.name)) (sym symbols) (symbols_named sections c.args.t.now.linkages c.args.output.functions c.requires.names)
 
 pub returns-clause-object : goal.returns-clause-object
 returns-clause-object c =

@@ -34,8 +34,10 @@ returns-clause-tables c =
     let codes : map (λ (x : SourceAndCode). x.code.now) c.as_slice-3.result.now ≡ map (λ (f : CompiledFunction). f.code) c.args.compilation.now.functions =
     search rules in
     let size : c.len-text_len.result ≡ length c.args.compilation.now.output.text = search rules in
-    tables_of c.args.program.now c.args.compilation.now c.args.with_frame c.as_slice-3.result.now (record { sources = sources; codes = codes }) c.tables.result
-    (subst (λ (n : ℕ). IfOk c.tables.result (AreTables c.args.program.now.meta n c.args.with_frame c.as_slice-3.result.now)) size c.tables.ensures.tables)
+    tables_of c.args.lines.now c.args.program.now c.args.compilation.now c.args.with_frame c.as_slice-3.result.now
+    (record { sources = sources; codes = codes }) c.tables.result
+    (subst (λ (n : ℕ). IfOk c.tables.result (AreTables c.args.lines.now c.args.program.now.meta n c.args.with_frame c.as_slice-3.result.now)) size
+    c.tables.ensures.tables)
 
 pub returns-clause-large : goal.returns-clause-large
 returns-clause-large c = λ is.
@@ -44,5 +46,5 @@ returns-clause-large c = λ is.
     let codes : map (λ (x : SourceAndCode). x.code.now) c.as_slice-3.result.now ≡ map (λ (f : CompiledFunction). f.code) c.args.compilation.now.functions =
     search rules in
     let size : c.len-text_len.result ≡ length c.args.compilation.now.output.text = search rules in
-    large_of c.args.program.now c.args.compilation.now c.args.with_frame c.as_slice-3.result.now (record { sources = sources; codes = codes })
-    (subst (λ (n : ℕ). AreTablesLarge c.args.program.now.meta n c.args.with_frame c.as_slice-3.result.now) size (c.tables.ensures.large is))
+    large_of c.args.lines.now c.args.program.now c.args.compilation.now c.args.with_frame c.as_slice-3.result.now (record { sources = sources; codes = codes })
+    (subst (λ (n : ℕ). AreTablesLarge c.args.lines.now c.args.program.now.meta n c.args.with_frame c.as_slice-3.result.now) size (c.tables.ensures.large is))

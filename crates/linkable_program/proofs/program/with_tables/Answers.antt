@@ -10,13 +10,13 @@ linkable-requires c = c.requires.tables.are.writable
 
 pub returns-in-Ok-clause-object : goal.returns-in-Ok-clause-object
 returns-in-Ok-clause-object c =
-    object_of c.args._program.now c.args.compilation c.args._with_frame c.args.flags c.args.tables.now c.requires.tables c.in-Ok.lists c.in-Ok.ensures.lists
-    c.linkable.result c.linkable.ensures.object
+    object_of c.args.lines.now c.args.program.now c.args.compilation c.args.with_frame c.args.flags c.args.tables.now c.requires.tables c.in-Ok.lists
+    c.in-Ok.ensures.lists c.linkable.result c.linkable.ensures.object
 
 pub returns-in-Ok-clause-large : goal.returns-in-Ok-clause-large
 returns-in-Ok-clause-large c = λ is.
-    file_large c.args._program.now c.args.compilation c.args._with_frame c.args.flags c.args.tables.now c.requires.tables c.in-Ok.lists c.in-Ok.ensures.lists
-    (c.linkable.ensures.too_large is)
+    file_large c.args.lines.now c.args.program.now c.args.compilation c.args.with_frame c.args.flags c.args.tables.now c.requires.tables c.in-Ok.lists
+    c.in-Ok.ensures.lists (c.linkable.ensures.too_large is)
 
 pub returns-in-Err-clause-large : goal.returns-in-Err-clause-large
 returns-in-Err-clause-large c = λ is.

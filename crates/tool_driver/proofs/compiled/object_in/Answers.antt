@@ -1,14 +1,12 @@
 -- The object of a compilation is that of an output of the program.
 use Rattle.std.proofs.Common.{Option, refl, sym, subst}
 use Rattle.cli.specs.declared.command.LinkableForm.{LinkableForm}
-use Rattle.tool_driver.specs.Compiled.{IsObjectAsked, HasInvalidNameAsked, IsLargeObjectAsked}
+use Rattle.tool_driver.specs.Compiled.{HasInvalidNameAsked}
 use Rattle.tool_driver.specs.Refusals.{no_symbol_name, object_too_large}
 use Rattle.tool_driver.proofs.compiled.object_in.Goals as goal
 
 pub returns-in-Ok-clause-ok : goal.returns-in-Ok-clause-ok
-returns-in-Ok-clause-ok c =
-    subst (λ (f : Option LinkableForm). IsObjectAsked f c.args._asked.now.plan c.args._program.now c.in-Ok.bytes) (sym c.requires.form)
-    (record { output = c.args.compilation.output; is = c.requires.output; object = c.in-Ok.ensures.object })
+returns-in-Ok-clause-ok c = record { output = c.args.compilation.output; is = c.requires.output; object = c.in-Ok.ensures.object }
 
 pub returns-in-Err-SymbolName-clause-err : goal.returns-in-Err-SymbolName-clause-err
 returns-in-Err-SymbolName-clause-err c =
@@ -18,6 +16,5 @@ returns-in-Err-SymbolName-clause-err c =
 
 pub returns-in-Err-TooLarge-clause-err : goal.returns-in-Err-TooLarge-clause-err
 returns-in-Err-TooLarge-clause-err c =
-    object_too_large c.args._asked.now refl
-    (subst (λ (f : Option LinkableForm). IsLargeObjectAsked f c.args._asked.now.plan c.args._program.now) (sym c.requires.form)
-    (record { output = c.args.compilation.output; is = c.requires.output; large = c.in-Err-TooLarge.ensures.too_large cc }))
+    object_too_large c.args._asked.now refl c.requires.form
+    (record { output = c.args.compilation.output; is = c.requires.output; large = c.in-Err-TooLarge.ensures.too_large cc })

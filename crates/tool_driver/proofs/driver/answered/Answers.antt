@@ -5,11 +5,11 @@ use Rattle.readback_strip.proofs.read_proof.Texts.{programs_are_as_read}
 use Rattle.readback_strip.specs.strip_command.StripText.{stripped_text}
 use Rattle.cli.specs.Command.{AreWithin}
 use Rattle.cli.specs.declared.command.Command.{Command}
-use Rattle.cli.specs.declared.command.Command.TheVariants.{Compile, Listing, Report, Object, Run, Strip}
+use Rattle.cli.specs.declared.command.Command.TheVariants.{Compile, Listing, Report, Run, Strip}
 use Rattle.tool_driver.specs.Run.{AnswersInput}
 use Rattle.tool_driver.specs.steps.Ends.{ReadingEnds}
 use Rattle.tool_driver.specs.Stream.{change}
-use Rattle.tool_driver.proofs.AnswerLemmas.{compile_ok, compile_err, listing_ok, listing_err, report_ok, report_err, object_ok, object_err}
+use Rattle.tool_driver.proofs.AnswerLemmas.{compile_ok, compile_err, listing_ok, listing_err, report_ok, report_err}
 use Rattle.tool_driver.proofs.AnswerLemmas.{run_ok, run_err, strip_ok, test_ok, test_err, read_none}
 use Rattle.tool_driver.proofs.driver.answered.Goals as goal
 
@@ -27,11 +27,6 @@ pub report_text-requires : goal.report_text-requires
 report_text-requires g c =
     let read = c.in_ok-program-in-Report.ensures.ok in
     programs_are_as_read c.in-Report.plan.linked read.text c.in_ok-program-in-Report.program read.has.reads
-
-pub object_text-requires : goal.object_text-requires
-object_text-requires g c =
-    let read = c.in_ok-program-in-Object.ensures.ok in
-    programs_are_as_read c.in-Object.asked.plan.linked read.text c.in_ok-program-in-Object.program read.has.reads
 
 pub run_text-requires : goal.run_text-requires
 run_text-requires g c =
@@ -80,19 +75,15 @@ returns-in_ok-program-in-Report-clause-err g c =
     (report_err c.in-Report.plan input c.in_ok-program-in-Report.program c.in_ok-program-in-Report.ensures.ok c.report_text.result
     c.report_text.ensures.err)
 
-pub returns-in_ok-program-in-Object-clause-ok : goal.returns-in_ok-program-in-Object-clause-ok
-returns-in_ok-program-in-Object-clause-ok g c =
-    let input = change g.S.Source.left g.S.Source.faults c.args.input.now c.read-in-Object.new.input in
-    subst (λ (k : Command). IfOk c.object_text.result (AnswersInput k input)) (sym c.in-Object.is)
-    (object_ok c.in-Object.asked input c.in_ok-program-in-Object.program c.in_ok-program-in-Object.ensures.ok c.object_text.result
-    c.object_text.ensures.ok)
+pub returns-in-Object-clause-ok : goal.returns-in-Object-clause-ok
+returns-in-Object-clause-ok g c =
+    let input = change g.S.Source.left g.S.Source.faults c.args.input.now c.object_answered.new.input in
+    subst (λ (k : Command). IfOk c.object_answered.result (AnswersInput k input)) (sym c.in-Object.is) c.object_answered.ensures.ok
 
-pub returns-in_ok-program-in-Object-clause-err : goal.returns-in_ok-program-in-Object-clause-err
-returns-in_ok-program-in-Object-clause-err g c =
-    let input = change g.S.Source.left g.S.Source.faults c.args.input.now c.read-in-Object.new.input in
-    subst (λ (k : Command). IfErr c.object_text.result (ReadingEnds k input)) (sym c.in-Object.is)
-    (object_err c.in-Object.asked input c.in_ok-program-in-Object.program c.in_ok-program-in-Object.ensures.ok c.object_text.result
-    c.object_text.ensures.err)
+pub returns-in-Object-clause-err : goal.returns-in-Object-clause-err
+returns-in-Object-clause-err g c =
+    let input = change g.S.Source.left g.S.Source.faults c.args.input.now c.object_answered.new.input in
+    subst (λ (k : Command). IfErr c.object_answered.result (ReadingEnds k input)) (sym c.in-Object.is) c.object_answered.ensures.err
 
 pub returns-in_ok-program-in-Run-clause-ok : goal.returns-in_ok-program-in-Run-clause-ok
 returns-in_ok-program-in-Run-clause-ok g c =
@@ -152,13 +143,6 @@ returns-in_err-program-in-Report-clause-err g c =
     rw (p.1, p.2, c.in-Report.is)
     (read_none (Report c.in-Report.plan) tt (change g.S.Source.left g.S.Source.faults c.args.input.now c.read-in-Report.new.input)
     c.in_err-program-in-Report.field-0.0 c.in_err-program-in-Report.ensures.err)
-
-pub returns-in_err-program-in-Object-clause-err : goal.returns-in_err-program-in-Object-clause-err
-returns-in_err-program-in-Object-clause-err g c =
-    let p = err_from_is_err_and c.from_residual-in_err-program-in-Object.result c.from_residual-in_err-program-in-Object.ensures.1 in
-    rw (p.1, p.2, c.in-Object.is)
-    (read_none (Object c.in-Object.asked) tt (change g.S.Source.left g.S.Source.faults c.args.input.now c.read-in-Object.new.input)
-    c.in_err-program-in-Object.field-0.0 c.in_err-program-in-Object.ensures.err)
 
 pub returns-in_err-program-in-Run-clause-err : goal.returns-in_err-program-in-Run-clause-err
 returns-in_err-program-in-Run-clause-err g c =
