@@ -10,6 +10,7 @@
 - DESIGN.md, "Where a change goes": for each class of operations the list has the files that name at least half of its operations, and no others;
   and the numbers of files and crates that name a case are right.
 - No line of the README is wider than a terminal.
+- What the README says of real programs has the numbers of REAL.md's tables, and its picture is drawn from them.
 - MAP.md, PROVED.md and DEFINITIONS.md are what their scripts make.
 """
 import glob
@@ -21,6 +22,7 @@ import sys
 sys.dont_write_bytecode = True
 import map as house
 import proved
+import real_picture
 
 TOP = house.TOP
 WIDE = 80
@@ -152,6 +154,13 @@ class Pages:
             for word in it:
                 if word and word not in proved.labels():
                     self.fault(page, 1, f"no clause of the top call: {word}")
+
+        shown = re.search(r"!\[[^]]*\]\[picture\]\n\n(.*?)\n\n", text, re.S)
+        for it in real_picture.counts():
+            if not re.search(rf"(?<![\d,]){it:,}(?!,?\d)", shown[1]):
+                self.fault(page, 1, f"REAL.md's tables have the number {it:,}")
+        if house.read(os.path.relpath(real_picture.PICTURE, TOP)) != real_picture.drawn():
+            self.fault(page, 1, "docs/real.svg isn't drawn from REAL.md: bench/real_picture.py")
 
     def files_with(self, names):
         """How many of some names each file has, but for those of crates that test or measure."""

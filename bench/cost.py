@@ -21,7 +21,7 @@ import sys
 TOP = os.path.join(os.path.dirname(os.path.abspath(__file__)), "..")
 SMALL = 8.0  # rows below ten seconds are left out of the table
 USED = 0.83  # of each processor, in a whole run on four
-MOST_WAYS = 500_000
+MOST_WAYS = 750_000
 COLUMNS = ("proof", "tests", "edits", "else")
 
 

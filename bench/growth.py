@@ -12,6 +12,7 @@
   bench/growth.py layout              of frame and layout, on items, blocks and slots
   bench/growth.py locations           of frame, layout, values over all paths and location lists, on blocks, items and variables
   bench/growth.py sections            what the sections of `compile` take beside its listing, on functions with variables and lines
+  bench/growth.py types               the whole run of `object --linkable`, on types that name one another
   bench/growth.py inlined             what `--inline` takes, on locations in chains of calls, calls around all locations, and items
   bench/growth.py passes              of copies, constants and spilled registers, in one block and in 1,024 blocks
   bench/growth.py scan                the whole run of `compile --passes=none` on a function with virtual registers, beside the same function with physical
@@ -264,6 +265,43 @@ def inlined(items, locations, calls, shared=0):
     return b"".join(head) + b"...\n---\nname: f\nbody: |\n  bb.0:\n" + body + b"    PseudoRET\n...\n"
 
 
+def with_types(lines):
+    """A function whose text has these lines of types, from !10 on, and one variable."""
+    head = (b"--- |\n  define i64 @f(i64 %a) !dbg !3 { ret i64 0 }\n  !1 = !DIFile(filename: \"t.c\", directory: \"/d\")\n"
+            b"  !2 = !DIBasicType(name: \"long\", size: 64, encoding: DW_ATE_signed)\n"
+            b"  !3 = distinct !DISubprogram(name: \"f\", scope: !1, file: !1, line: 1)\n"
+            b"  !4 = !DILocalVariable(name: \"v\", scope: !3, file: !1, line: 2, type: !2)\n  !5 = !DILocation(line: 3, column: 1, scope: !3)\n")
+    body = b"  bb.0:\n    DBG_VALUE $x10, $noreg, !4, !DIExpression(), debug-location !5\n    PseudoRET, debug-location !5\n"
+    return head + b"".join(b"  !%d = %s\n" % (10 + n, line) for n, line in enumerate(lines)) + b"...\n---\nname: f\nbody: |\n" + body + b"...\n"
+
+
+POINTER = b"!DIDerivedType(tag: DW_TAG_pointer_type, baseType: !%d, size: 64)"
+MEMBER = b"!DIDerivedType(tag: DW_TAG_member, name: \"m%d\", baseType: !%d, size: 64, offset: %d)"
+STRUCTURE = b"distinct !DICompositeType(tag: DW_TAG_structure_type, name: \"s%d\", size: %d, elements: !%d)"
+
+
+def records(number):
+    """Structures, each with the one before it as its member."""
+    return with_types(line for n in range(number) for line in (
+        STRUCTURE % (n, 64, 11 + 3 * n), b"!{!%d}" % (12 + 3 * n), MEMBER % (0, 7 + 3 * n if n else 2, 0)))
+
+
+def pointers(number):
+    """Pointers in a circle, none of which stands."""
+    return with_types(POINTER % (10 + (n + 1) % number) for n in range(number))
+
+
+def signatures(number):
+    """Functions, each with a parameter of the type of the one before it."""
+    return with_types(line for n in range(number) for line in (b"!DISubroutineType(types: !%d)" % (11 + 2 * n), b"!{!2, !%d}" % (8 + 2 * n if n else 2)))
+
+
+def members(number):
+    """One structure with so many members."""
+    names = b", ".join(b"!%d" % (12 + n) for n in range(number))
+    return with_types([STRUCTURE % (0, 64 * number, 11), b"!{" + names + b"}", *(MEMBER % (n, 2, 64 * n) for n in range(number))])
+
+
 def made_slow(entries, blocks, slots=0, variables=0):
     """A function of these lines of substitutions and of each block, with so many spill slots, and so many variables from !10 on."""
     meta = (b"--- |\n  !1 = !DIFile(filename: \"t.c\", directory: \"/d\")\n  !2 = !DIBasicType(name: \"long\", size: 64, encoding: DW_ATE_signed)\n"
@@ -511,6 +549,10 @@ def main():
             table("%s, by %s" % (kind, by), "crates/mirdwarf/out/mirdwarf", words, [first << n for n in range(times + 1)], make)
     elif what == ["sections"]:
         more("functions of four variables and 64 lines, by functions", ["compile", "--passes=none"], ["listing", "--passes=none"], (32, 64, 128, 256), lined)
+    elif what == ["types"]:
+        program, words = "crates/mirdwarf/out/mirdwarf", ["object", "--linkable", "--passes=none"]
+        for make, of in ((records, "structures"), (pointers, "pointers"), (signatures, "functions"), (members, "members")):
+            table("%s, by %s" % (make.__doc__.rstrip(".").lower(), of), program, words, (2500, 5000, 10000), make)
     elif what == ["inlined"]:
         words, none = ["compile", "--inline", "--passes=none"], ["compile", "--passes=none"]
         more("locations, an item each, in chains of 100 calls", words, none, (250, 500, 1000, 2000), lambda n: inlined(n, n, 100))

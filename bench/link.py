@@ -323,6 +323,14 @@ def base_of(room, row, options):
     return [compiled(room, "runtime", RUNTIME, options), compiled(room, "main", main_of(row), options, "-gdwarf-4", "-std=c17")]
 
 
+def data_of(room, row, own, path, options):
+    """The object of the data that the file of an object names and doesn't define. Data may name the file's own functions: they are seen from outside."""
+    local = [it[2] for it in (line.split() for line in said("riscv64-linux-gnu-nm", path).splitlines()) if it[1:2] == ["t"]]
+    said("riscv64-linux-gnu-objcopy", *(f"--redefine-sym={it}={own}{it}" for it in symbols(path)[1] if it.startswith(".str")),
+         *(f"--globalize-symbol={it}" for it in local), path)
+    return compiled(room, own + "_data", row.data[own].replace(" a[]", f" {own}_a[]").replace(" b[]", f" {own}_b[]"), options)
+
+
 def row_of(room, row, options):
     """Makes the programs of a row with these options."""
     name = row.files[0].split("/")[0]
@@ -336,8 +344,7 @@ def row_of(room, row, options):
         tools(f"{what}, {own}", path)
         defined += symbols(path)[0]
         if own in row.data:
-            said("riscv64-linux-gnu-objcopy", *(f"--redefine-sym={it}={own}{it}" for it in symbols(path)[1] if it.startswith(".str")), path)
-            data.append(compiled(room, own + "_data", row.data[own].replace(" a[]", f" {own}_a[]").replace(" b[]", f" {own}_b[]"), options))
+            data.append(data_of(room, row, own, path, options))
         ours.append(path)
     for linker in LINKERS:
         program = os.path.join(room, "program")

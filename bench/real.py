@@ -6,13 +6,14 @@
 FOLDER is where sources are fetched to and built: `apt-get source --download-only` brings lua5.4, zlib and bzip2 where they are missing (a line `deb-src` in
 apt's list is needed). Each program is built by its own Makefile with CC=tools/mirdwarf-cc, in FOLDER/mirdwarf, then linked by ld.lld and by GNU ld, and its
 tests are run: those of zlib and bzip2 are their Makefiles', and Lua, whose source has none, has to print for bench/real.lua what the build by clang in
-FOLDER/clang prints. The tables of docs/REAL.md are printed, with --write put there. A function is ours where mirdwarf wrote its code; the others are told by
-name. A program that is built already isn't built again.
+FOLDER/clang prints. The tables of docs/REAL.md are printed, with --write put there and drawn in docs/real.svg. A function is ours where mirdwarf wrote its
+code; the others are told by name. A program that is built already isn't built again.
 
 With --count it counts by valgrind's callgrind the instructions that mirdwarf and llc execute for the same files behind register allocation, those that are
-wholly ours. PROGRAM is crates/mirdwarf/out/mirdwarf where none is given, and NAMEs are those of PROGRAMS, all where none is given. Debian's packages: those
-of tools/mirdwarf-cc, dpkg-dev, make, valgrind."""
+wholly ours, two runs at a time. PROGRAM is crates/mirdwarf/out/mirdwarf where none is given, and NAMEs are those of PROGRAMS, all where none is given.
+Debian's packages: those of tools/mirdwarf-cc, dpkg-dev, make, valgrind."""
 import collections
+import concurrent.futures
 import glob
 import os
 import re
@@ -21,11 +22,14 @@ import subprocess
 import sys
 import time
 
-TOP = os.path.realpath(os.path.join(os.path.dirname(os.path.abspath(__file__)), ".."))
-PAGE, COMPILER = os.path.join(TOP, "docs", "REAL.md"), os.path.join(TOP, "tools", "mirdwarf-cc")
+sys.dont_write_bytecode = True
+import real_picture
+
+TOP = real_picture.TOP
+PAGE, COMPILER = real_picture.PAGE, os.path.join(TOP, "tools", "mirdwarf-cc")
 CLANG, KEEPING = f"{COMPILER} --clang", f"{COMPILER} -save-temps"
 OBJECT = "object --linkable --linked --frame".split()
-LLC = "llc-19 -O2 -mtriple=riscv64 -start-after=virtregrewriter,1 -filetype=obj".split()
+LLC = "llc-19 -x=mir -O2 -mtriple=riscv64 -start-after=virtregrewriter,1 -filetype=obj".split()
 QEMU = "qemu-riscv64 ./"
 # Of each program: its package, the folder of its Makefile, what comes before make, make's words, the programs that are linked, and the tests: commands
 # that end with 0.
@@ -139,27 +143,31 @@ def versions():
     return ", ".join(found)
 
 
-def counted(room, words, file):
-    """The instructions that a run executes."""
-    with open(file, "rb") as it:
-        ran = subprocess.run(["valgrind", "--tool=callgrind", f"--callgrind-out-file={room}/counts", *words], stdin=it, capture_output=True)
+def counted(words, file):
+    """The instructions that a run executes. Of a stack object that is several variables only the first one is given: llc can't read more again."""
+    with open(file, encoding="utf-8", errors="surrogateescape") as it:
+        text = re.sub(r"(debug-info-\w+: '!(?:\d+|\w+\(.*?\)))!.*?'", r"\1'", it.read()).encode(errors="surrogateescape")
+    ran = subprocess.run(["valgrind", "--tool=callgrind", f"--callgrind-out-file={os.devnull}", *words], input=text, capture_output=True)
     return int(re.search(rb"Collected : (\d+)", ran.stderr)[1]) if ran.returncode == 0 else None
 
 
 def instructions(room, program, titles):
-    """A table of what mirdwarf and llc execute for the files of each program that are wholly ours."""
-    lines = ["| program | files | bytes | mirdwarf | `llc` | ratio |", "|---|---|---|---|---|---|"]
-    for title in titles:
+    """A table of what mirdwarf and llc execute for the files of each program that are wholly ours; rows of other programs stay."""
+    lines = [f"On {time.strftime('%Y-%m-%d')}:", "", "| program | files | bytes | mirdwarf | `llc` | ratio |", "|---|---|---|---|---|---|"]
+    before = {row["program"]: "| " + " | ".join(row.values()) + " |" for rows in real_picture.tables("instructions") for row in rows}
+    for title in PROGRAMS:
+        if title not in titles:
+            lines += [before[title]] if title in before else []
+            continue
         folder, said = built(room, "mirdwarf", title, program, KEEPING)
-        refused, total = refusals(said), [0, 0, 0, 0]
-        for file in sorted(glob.glob(os.path.join(folder, "*.mir"))):
-            if os.path.splitext(os.path.basename(file))[0] in refused or not functions(file[:-3] + "o"):
-                continue
-            ours, theirs = counted(room, [program, *OBJECT], file), counted(room, [*LLC, file, "-o", f"{room}/counted.o"], file)
-            if ours and theirs:
-                total = [a + b for a, b in zip(total, (1, os.path.getsize(file), ours, theirs))]
-        files, size, ours, theirs = total
-        lines.append(f"| {title} | {files} | {size:,} | {ours:,} | {theirs:,} | {ours / theirs:.3f} |")
+        refused, files = refusals(said), sorted(glob.glob(os.path.join(folder, "*.mir")))
+        files = [it for it in files if os.path.splitext(os.path.basename(it))[0] not in refused and functions(it[:-3] + "o")]
+        with concurrent.futures.ThreadPoolExecutor(2) as pool:
+            ours = pool.map(lambda it: counted([program, *OBJECT], it), files)
+            theirs = pool.map(lambda it: counted([*LLC, "-o", os.devnull], it), files)
+            both = [(os.path.getsize(file), a, b) for file, a, b in zip(files, ours, theirs) if a and b]
+        size, ours, theirs = map(sum, zip(*both))
+        lines.append(f"| {title} | {len(both)} | {size:,} | {ours:,} | {theirs:,} | {ours / theirs:.3f} |")
         print(lines[-1], file=sys.stderr, flush=True)
     return lines
 
@@ -175,6 +183,7 @@ def put(mark, lines, write):
     page = re.sub(rf"(<!-- {mark} -->\n).*?(<!-- end -->\n)", lambda found: found[1] + text + found[2], page, flags=re.S)
     with open(PAGE, "w", encoding="utf-8") as it:
         it.write(page)
+    real_picture.main()
 
 
 def main():

@@ -7,11 +7,11 @@ FOLDER, PROGRAM and NAMEs are those of bench/real.py, by which the programs are 
 pattern in what isn't assigned. Each is run on qemu and stopped at the functions of RUNS, each at the call of its number, and gdb tells the variables of
 each frame. Frames are matched by the names of functions from `main` on, and compared where gdb names the same line: a caller's all, the innermost frame's
 parameters; those of functions that mirdwarf doesn't take are left out of both. Addresses count as equal, null and what a string holds don't. What -O0 hasn't
-assigned isn't compared.
+assigned isn't compared. A value of the type `unknown`, eight bytes as a register has them, is compared by as many of its lowest bytes as the variable has.
 
-Prints the table of docs/REAL.md, with --write puts it there, and below it each value that differs, beside clang's at the same stop: what both say alike
-against -O0 is what the compiler's marks say. With --all each frame's values are printed. Ends with 1 where mirdwarf's alone differs. Debian's packages:
-those of bench/real.py, gdb-multiarch."""
+Prints the table of docs/REAL.md, with --write puts it there and into docs/real.svg, and below it each value that differs, beside clang's at the same stop:
+what both say alike against -O0 is what the compiler's marks say. With --all each frame's values are printed. Ends with 1 where mirdwarf's alone differs.
+Debian's packages: those of bench/real.py, gdb-multiarch."""
 import collections
 import difflib
 import json
@@ -29,11 +29,13 @@ sys.dont_write_bytecode = True
 import executable
 import real
 
-# Of each run: the program, its words, the file that it reads, and the stops in their order: functions with the number of the call from the last stop on.
+# Of each run: the program, its words, the file that it reads, and the stops in their order: functions with the number of the call from the last stop on, and
+# which calls count. (Lua finds strings again by the numbers of their addresses, so how often it makes one depends on where the linker put them.)
+FLUSH = f"$a2 == 5 && *(int *) $a1 == {int.from_bytes(b'flus', 'little')}"
 RUNS = [
     ("Lua", ["lua", os.path.join(TOP, "bench", "real.lua")], None,
-     [("luaH_resize", 4), ("luaS_newlstr", 60), ("luaK_exp2nextreg", 20), ("luaH_newkey", 30), ("luaV_concat", 1), ("luaL_tolstring", 20), ("luaO_tostring", 1),
-      ("lua_pushfstring", 1), ("luaG_typeerror", 1), ("lua_getinfo", 2), ("luaF_close", 1)]),
+     [("luaH_resize", 4), ("luaS_newlstr", 1, FLUSH), ("luaK_exp2nextreg", 20), ("luaH_newkey", 30), ("luaV_concat", 1), ("luaL_tolstring", 20),
+      ("luaO_tostring", 1), ("lua_pushfstring", 1), ("luaG_typeerror", 1), ("lua_getinfo", 2), ("luaF_close", 1)]),
     ("zlib", ["example", "tested"], None,
      [("deflateInit_", 1), ("_tr_flush_block", 1), ("inflateInit_", 1), ("inflate", 1), ("gzputs", 1), ("gzread", 1), ("deflate", 9), ("inflate", 4),
       ("adler32_z", 3), ("inflate_table", 1)]),
@@ -46,19 +48,41 @@ SECONDS = 900
 # What a variable holds at -O0 that nothing was assigned to.
 PATTERN = re.compile(r"-1431655766|2863311530|-6148914691236517206|12297829382473034410|\\252|170 |0xaaaaaaaa|-3\.72066\d*e-103|43690|-21846")
 
+# The registers that a call may change.
+CHANGED = re.compile(r"(a\d|t\d|ra)$")
+
 # What gdb runs: at each stop the frames, each with its name, its line, and the variables of its blocks, inner ones first.
 WALK = r"""
-import gdb, json, re
+import gdb, json, re, struct
 for setting in ("pagination off", "confirm off", "style enabled off", "print repeats 8", "print elements 64", "backtrace past-main off"):
     gdb.execute("set " + setting)
 
+# of a scalar the size, whether it is an address, and the value as a number without sign
+def bits(value, kind):
+    if kind.code == gdb.TYPE_CODE_FLT:
+        return kind.sizeof, False, int.from_bytes(struct.pack("<d" if kind.sizeof == 8 else "<f", float(value)), "little")
+    if kind.code in (gdb.TYPE_CODE_INT, gdb.TYPE_CODE_ENUM, gdb.TYPE_CODE_BOOL, gdb.TYPE_CODE_CHAR, gdb.TYPE_CODE_PTR):
+        return kind.sizeof, kind.code == gdb.TYPE_CODE_PTR, int(value) % 256 ** kind.sizeof
+    return None
+
+# the register that a variable is in, or None
+def register(frame, symbol):
+    frame.select()
+    said = gdb.execute("info address " + symbol.name, to_string=True)
+    at = frame.pc() - bool(frame.newer())
+    ranges = re.findall(r"Range 0x([0-9a-f]+)-0x([0-9a-f]+): (.*)", said)
+    found = re.search(r"a variable in \$(\w+)", next((it for low, high, it in ranges if int(low, 16) <= at < int(high, 16)), said))
+    return found and found[1]
+
+# the type of a variable, its text, what bits tells, and its register
 def told(frame, symbol, block):
     try:
         value = frame.read_var(symbol, block)
         kind = value.type.strip_typedefs()
         if value.is_optimized_out:
             return None
-        return [str(kind.unqualified()), re.sub(r"0x(?!a{16})[1-9a-f][0-9a-f]*( <[^>]*>)?", "P", value.format_string(max_depth=3))]
+        text = re.sub(r"0x(?!a{16})[1-9a-f][0-9a-f]*( <[^>]*>)?", "P", value.format_string(max_depth=3))
+        return [str(kind.unqualified()), text, bits(value, kind), register(frame, symbol)]
     except (gdb.error, RuntimeError):
         return None
 
@@ -78,8 +102,9 @@ def variables(frame):
     return found
 
 stops = []
-for name, call in it["stops"]:
+for name, call, *condition in it["stops"]:
     at = gdb.Breakpoint(name)
+    at.condition = condition[0] if condition else None
     at.ignore_count = call - 1
     gdb.execute("continue", to_string=True)
     frames, frame = [], gdb.newest_frame() if gdb.selected_inferior().threads() else None
@@ -123,8 +148,18 @@ def matched(frames, others):
             yield b + n, frames[-1 - a - n], others[-1 - b - n], a + n + 1 == len(names)
 
 
+def unknown(value, wanted):
+    """How eight bytes of the type `unknown` compare with a value: of an address whether it is null, else the lowest bytes."""
+    if value[0] != "unknown" or not value[2] or not wanted[2] or wanted[2][0] > 8:
+        return "untyped"
+    size, address, number = wanted[2]
+    same = bool(value[2][2]) == bool(number) if address else value[2][2] % 256 ** size == number
+    return "unknown" if same else "other"
+
+
 def compared(frames, truth, foreign):
-    """The variables of the frames that can be compared, but for those of foreign functions, by depth and name: where, how they compare, and both values."""
+    """The variables of the frames that can be compared, but for those of foreign functions, by depth and name: where, how they compare, both values, and
+    whether the first one is in a register that the call for which the frame waits may change."""
     found = {}
     for depth, (name, line, ours), (_, other, theirs), innermost in matched(frames, truth):
         if name in foreign or line != other and not innermost:
@@ -139,9 +174,10 @@ def compared(frames, truth, foreign):
             (argument, wanted), value = known[variable][0], next(it[2] for it in ours if it[0] == variable)
             if wanted is None or PATTERN.search(wanted[1]) or innermost and not argument:
                 continue
-            how = ("none" if value is None or "<optimized out>" in value[1] else "untyped" if value[0] != wanted[0] else
-                   "equal" if value == wanted else "other")
-            found[depth, variable] = f"{name}:{line} {variable}", how, value and value[1], wanted[1]
+            how = ("none" if value is None or "<optimized out>" in value[1] else unknown(value, wanted) if value[0] != wanted[0] else
+                   "equal" if value[:2] == wanted[:2] else "other")
+            changed = bool(value and not innermost and CHANGED.match(value[3] or ""))
+            found[depth, variable] = f"{name}:{line} {variable}", how, value and value[1], wanted[1], changed
     return found
 
 
@@ -163,19 +199,21 @@ def main():
                 frames = found[kind][number] if number < len(found[kind]) else []
                 values[kind] = compared(frames, truth, foreign)
                 counts[title, kind].update(it[1] for it in values[kind].values())
+                counts[title, kind]["changed"] += sum(it[1] == "other" and it[4] for it in values[kind].values())
                 counts[title, kind]["stops"] += bool(frames)
                 counts[title, kind]["frames"] += sum(it[0] not in foreign for it in frames)
                 if every:
                     print(kind, stops[number], *frames, sep="\n  ")
-            for key, (where, how, value, wanted) in values["mirdwarf"].items():
+            for key, (where, how, value, wanted, _) in values["mirdwarf"].items():
                 if how == "other":
-                    theirs = values["clang"].get(key, ("", "", None, ""))[2]
+                    theirs = values["clang"].get(key, ("", "", None, "", False))[2]
                     alone += theirs != value
                     differing.append(f"{title}, {stops[number][0]}: {where}: {value}, at -O0 {wanted}, by clang {theirs}"[:300])
     lines = [f"On {time.strftime('%Y-%m-%d')}:", "",
-             "| program | by | stops | frames | as at -O0 | otherwise | of another type | no value |", "|---|---|---|---|---|---|---|---|"]
+             "| program | by | stops | frames | as at -O0 | as at -O0, of type `unknown` | otherwise | of these in a register that the call may "
+             "change | of another type | no value |", "|---|---|---|---|---|---|---|---|---|---|"]
     for (title, kind), its in counts.items():
-        columns = [its[it] for it in ("stops", "frames", "equal", "other", "untyped", "none")]
+        columns = [its[it] for it in ("stops", "frames", "equal", "unknown", "other", "changed", "untyped", "none")]
         lines.append(f"| {title} | {kind} | {' | '.join(map(str, columns))} |")
     real.put("walk", lines, "--write" in sys.argv)
     for it in differing:

@@ -1,11 +1,11 @@
 #!/usr/bin/env python3
-"""Does what README.md says, as a newcomer would, and tells of each command what it took and how it ended.
+"""Does what README.md and examples/calculator/README.md say, as a newcomer would, and tells of each command what it took and how it ended.
 
     bench/walk.py [--all]      at the top of a checkout in which the program is built; with --all the commands of `rt` are run too
 
-The README's indented blocks are commands, and below them what they print: each such line has to come, in this order; `...` stands for any lines.
+The pages' indented blocks are commands, and below them what they print: each such line has to come, in this order; `...` stands for any lines.
 A command that begins with a word of RUN is run, and its output is what it prints, or the file that it writes by `>`. FILE.c is a copy of
-examples/ledger.c. Ends with 1 if a command fails, or a line that the README shows isn't printed. Debian's packages: those of the README."""
+examples/ledger.c. Ends with 1 if a command fails, or a line that a page shows isn't printed. Debian's packages: those of the README."""
 import os
 import re
 import shutil
@@ -16,7 +16,8 @@ import time
 
 TOP = os.path.realpath(os.path.join(os.path.dirname(os.path.abspath(__file__)), ".."))
 RUN = ("rt", "./mirdwarf", "tools/mirdwarf-cc", "qemu-riscv64", "clang-19", "llc-19", "examples/debug.py", "tools/view.py", "readelf", "objdump",
-       "gdb-multiarch")
+       "gdb-multiarch", "make", "(cd")
+PAGES = ("README.md", "examples/calculator/README.md")
 
 
 def blocks(text):
@@ -33,9 +34,10 @@ def lacking(shown, printed):
 
 def main():
     every, failed = sys.argv[1:] == ["--all"], 0
-    with open(os.path.join(TOP, "README.md"), encoding="utf-8") as it:
-        text = it.read()
-    steps = []
+    steps, text = [], ""
+    for page in PAGES:
+        with open(os.path.join(TOP, page), encoding="utf-8") as it:
+            text += it.read() + "\n"
     for lines in blocks(text):
         for line in lines:
             if line.split()[0] in RUN:
@@ -44,7 +46,7 @@ def main():
                 steps[-1][1].append(line)
     with tempfile.TemporaryDirectory() as room:
         shutil.copy(os.path.join(TOP, "examples", "ledger.c"), os.path.join(room, "FILE.c"))
-        print("| command | seconds | status | what the README shows |\n|---|---|---|---|")
+        print("| command | seconds | status | what the page shows |\n|---|---|---|---|")
         for command, shown in steps:
             if command.startswith("rt ") and not every:
                 print(f"| `{command}` | · | not run | |")
